@@ -1,0 +1,7 @@
+pub mod FingerprintLemmas
+pub mod FramedLemmas
+pub mod HeaderLemmas
+pub mod PairLemmas
+pub mod PieceLemmas
+pub mod PlaceLemmas
+pub mod RowLemmas
