@@ -1,0 +1,12 @@
+pub mod BufferLemmas
+pub mod DigitLemmas
+pub mod FrontLemmas
+pub mod HeadLemmas
+pub mod HeaderLemmas
+pub mod IdLemmas
+pub mod LanguageLemmas
+pub mod LineLemmas
+pub mod LongestLemmas
+pub mod OutcomeLemmas
+pub mod PieceLemmas
+pub mod ReadingLemmas

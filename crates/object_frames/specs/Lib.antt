@@ -1,0 +1,9 @@
+pub mod Body
+pub mod Faults
+pub mod Fetched
+pub mod Frame
+pub mod Fronts
+pub mod Head
+pub mod Id
+pub mod Line
+pub mod Object
