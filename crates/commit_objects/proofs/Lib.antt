@@ -1,0 +1,11 @@
+pub mod BodyLemmas
+pub mod CommitLemmas
+pub mod CutLineLemmas
+pub mod FurtherLemmas
+pub mod HeadingLemmas
+pub mod LineLemmas
+pub mod OneReading
+pub mod SignatureLemmas
+pub mod SignedAgain
+pub mod StepLemmas
+pub mod WritingLemmas
