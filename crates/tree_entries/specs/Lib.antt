@@ -1,0 +1,5 @@
+pub mod Asked
+pub mod Faults
+pub mod Front
+pub mod Reading
+pub mod Tree
