@@ -1,0 +1,16 @@
+pub mod BlankLemmas
+pub mod CompleteLemmas
+pub mod DescentLemmas
+pub mod ExitLemmas
+pub mod FirstLemmas
+pub mod NumberLemmas
+pub mod PrintedLemmas
+pub mod PutLemmas
+pub mod RunLemmas
+pub mod ShorterLemmas
+pub mod SkipLemmas
+pub mod SoundLemmas
+pub mod SpellingLemmas
+pub mod TextLemmas
+pub mod TokenLemmas
+pub mod TreeLemmas
