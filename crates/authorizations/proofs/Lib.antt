@@ -1,0 +1,6 @@
+pub mod EntryLemmas
+pub mod FileLemmas
+pub mod FormLemmas
+pub mod KeySetLemmas
+pub mod MeetLemmas
+pub mod ReadingLemmas

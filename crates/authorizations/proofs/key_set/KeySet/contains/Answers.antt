@@ -1,0 +1,12 @@
+use Rattle.std.proofs.Common.{sym, ap, ◌∙◌}
+use Rattle.std.specs.FinSet.{contains}
+use Rattle.authorizations.specs.KeySet.{Keys}
+use Rattle.authorizations.proofs.KeySetLemmas.{searched, contains_found, key_cmp_total}
+use Rattle.authorizations.proofs.key_set.KeySet.contains.Goals as goal
+
+pub returns : goal.returns
+returns c =
+    let found = searched key_cmp_total _ c.args.key _ c.as_slice.ensures.ascending c.binary_search.ensures.bound c.binary_search.ensures.position in
+    c.is_ok.ensures.value
+    ∙ contains_found key_cmp_total c.as_slice.result.now c.args.key _ found
+    ∙ ap (λ (s : Keys). contains s c.args.key) (sym c.as_slice.ensures.keys)
