@@ -1,0 +1,16 @@
+pub mod ChainLemmas
+pub mod ClosureLemmas
+pub mod CoveredLemmas
+pub mod EndlessLemmas
+pub mod GivingUpLemmas
+pub mod HeldLemmas
+pub mod LevelLemmas
+pub mod MissingLemmas
+pub mod OrderLemmas
+pub mod PlaceLemmas
+pub mod RankedLemmas
+pub mod ReachingLemmas
+pub mod SettingLemmas
+pub mod SettlingLemmas
+pub mod StepLemmas
+pub mod WalkLemmas

@@ -1,0 +1,9 @@
+pub mod Chains
+pub mod Covers
+pub mod Fail
+pub mod History
+pub mod Level
+pub mod Node
+pub mod Reaching
+pub mod Relation
+pub mod Walk

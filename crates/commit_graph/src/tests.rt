@@ -1,0 +1,145 @@
+//! Histories of four commits and fewer, with ample memory.
+use crate::{Graph, GraphFail, Marks, Relation};
+use object_frames::{Id, IdList};
+use std::alloc::Global;
+use std::process::Abort;
+use std::test::Fail;
+
+// The id that ends with this byte, after nineteen that are zero.
+fn id(n: u8) -> Id {
+    let mut bytes = [0u8; 20];
+    bytes[19] = n;
+    Id::of_bytes(bytes)
+}
+
+fn ids(alloc: Global, names: &[u8]) -> Result<IdList, Fail> {
+    let mut list = IdList::new(alloc);
+    for n in names {
+        list.push(id(*n))?;
+    }
+    Ok(list)
+}
+
+// Two lines of history that meet again: 4 and 3 have the parent 9, and 1 has the parents 4 and 3.
+fn meeting(alloc: Global) -> Result<Graph, Fail> {
+    let mut graph = Graph::new(alloc);
+    graph.add(id(4), &ids(alloc, &[9])?)?;
+    graph.add(id(3), &ids(alloc, &[9])?)?;
+    graph.add(id(1), &ids(alloc, &[4, 3])?)?;
+    Ok(graph)
+}
+
+// The same with its root.
+fn rooted(alloc: Global) -> Result<Graph, Fail> {
+    let mut graph = meeting(alloc)?;
+    graph.add(id(9), &ids(alloc, &[])?)?;
+    Ok(graph)
+}
+
+// What a commit reaches.
+fn reached(rt: &impl Abort, alloc: Global, graph: &Graph, from: Id) -> Result<Marks, Fail> {
+    let mut list = IdList::new(alloc);
+    list.push(from)?;
+    assert!(rt; graph.holds(from), "it is held");
+    if let Some(_) = graph.missing() {
+        panic!(rt; "a parent is missing");
+    }
+    Ok(graph.closure(alloc, &list)?)
+}
+
+// How two commits stand to each other.
+fn related(rt: &impl Abort, graph: &mut Graph, old: Id, new: Id) -> Result<Relation, Fail> {
+    graph.rank()?;
+    assert!(rt; graph.holds(old), "the old one is held");
+    assert!(rt; graph.holds(new), "the new one is held");
+    Ok(graph.relation(old, new))
+}
+
+#[test]
+fn generations_count_from_the_root(rt: HostRuntime) -> Result<(), Fail> {
+    let mut graph = rooted(rt.alloc())?;
+    assert_eq!(rt; graph.generation(id(1)), None, "before it is ranked");
+    graph.rank()?;
+    for (n, generation) in [(9, 1), (4, 2), (3, 2), (1, 3)] {
+        assert_eq!(rt; graph.generation(id(n)), Some(generation), "of {n}");
+    }
+    assert_eq!(rt;
+        graph.generation(id(2)),
+        None,
+        "of a commit that is not held"
+    );
+    Ok(())
+}
+
+#[test]
+fn a_commit_is_held_with_its_parents(rt: HostRuntime) -> Result<(), Fail> {
+    let alloc = rt.alloc();
+    let mut graph = rooted(alloc)?;
+    assert_eq!(rt; graph.len(), 4);
+    assert!(rt; graph.holds(id(9)) && !graph.holds(id(2)));
+    assert_eq!(rt; graph.parents(id(1)), Some([id(4), id(3)].as_slice()));
+    assert_eq!(rt; graph.parents(id(2)), None);
+    assert_eq!(rt; graph.missing(), None);
+    graph.rank()?;
+    assert_eq!(rt;
+        graph.add(id(9), &ids(alloc, &[1])?),
+        Err(GraphFail::Present)
+    );
+    assert_eq!(rt;
+        graph.generation(id(9)),
+        Some(1),
+        "after a commit that was refused"
+    );
+    Ok(())
+}
+
+#[test]
+fn a_commit_reaches_itself_and_its_ancestors(rt: HostRuntime) -> Result<(), Fail> {
+    let alloc = rt.alloc();
+    let graph = rooted(alloc)?;
+    let marks = reached(&rt, alloc, &graph, id(4))?;
+    for (n, marked) in [(9, true), (4, true), (3, false), (1, false)] {
+        assert_eq!(rt; marks.has(id(n)), marked, "at {n}");
+    }
+    Ok(())
+}
+
+#[test]
+fn a_parent_that_is_not_held_leaves_it_open(rt: HostRuntime) -> Result<(), Fail> {
+    let mut graph = meeting(rt.alloc())?;
+    assert_eq!(rt; graph.missing(), Some(id(9)));
+    assert_eq!(rt; graph.rank(), Err(GraphFail::Open(id(9))));
+    Ok(())
+}
+
+#[test]
+fn descendants_of_a_cycle_have_no_generation_either(rt: HostRuntime) -> Result<(), Fail> {
+    let alloc = rt.alloc();
+    let mut graph = Graph::new(alloc);
+    graph.add(id(6), &ids(alloc, &[5])?)?;
+    graph.add(id(5), &ids(alloc, &[6])?)?;
+    assert_eq!(rt; graph.rank(), Err(GraphFail::Cycle(id(5))));
+    graph.add(id(2), &ids(alloc, &[6])?)?;
+    assert_eq!(rt; graph.rank(), Err(GraphFail::Cycle(id(2))));
+    Ok(())
+}
+
+#[test]
+fn commits_that_meet_later_are_unrelated(rt: HostRuntime) -> Result<(), Fail> {
+    let mut graph = rooted(rt.alloc())?;
+    for (old, new, relation) in [
+        (4, 1, Relation::Ancestor),
+        (9, 1, Relation::Ancestor),
+        (1, 4, Relation::Descendant),
+        (4, 3, Relation::Unrelated),
+        (1, 1, Relation::Same),
+    ] {
+        assert_eq!(rt;
+            related(&rt, &mut graph, id(old), id(new))?,
+            relation,
+            "{old} to {new}"
+        );
+    }
+    assert_eq!(rt; graph.generation(id(1)), Some(3), "it is ranked still");
+    Ok(())
+}
