@@ -1,0 +1,57 @@
+//! Texts put into sinks.
+ghost use Rattle.std.specs.Prelude.{◌≡◌, ◌≢◌, nat_eq, IsTrue};
+ghost use Rattle.guix_auth_cli.specs.Run.{status_of, ShowsRefusal, IsPut};
+
+use auth_engine::EngineFail;
+use auth_report::refusal;
+use child_ports::Sink;
+use std::alloc::Global;
+
+const GIT_FAILED: &[u8] = b"guix-auth: git failed\n";
+
+const GPGV_FAILED: &[u8] = b"guix-auth: gpgv failed\n";
+
+const OUT_OF_MEMORY: &[u8] = b"guix-auth: out of memory\n";
+
+/// Puts a line on standard error, and gives the status. Where the line can't be put the status stays.
+pub fn tell<E: Sink>(err: &mut E, line: &[u8], status: u8) -> u8
+    ensures status { result ≡ status }
+    ensures told { E.tells err.new ≡ E.tells err.old }
+    ensures put { IsTrue (E.tells err.old) → IsPut (E.taken err.old) (E.taken err.new) line.now (E.faults err.old) (E.faults err.new) }
+{
+    match err.put(line) {
+        Ok(()) | Err(_) => status,
+    }
+}
+
+// The status of a refusal.
+fn own_status(fail: &EngineFail) -> u8
+    ensures { result ≡ status_of fail.now }
+{
+    match fail {
+        EngineFail::Intro { .. } => 1,
+        EngineFail::Name { .. } | EngineFail::NotIntroduction { .. } | EngineFail::Object { .. } =>
+            3,
+        EngineFail::GitFault | EngineFail::SigFault => 4,
+        EngineFail::Memory => 6,
+    }
+}
+
+/// Puts the line of a refusal on standard error, and gives its status. A fault and want of memory take no memory.
+pub fn tell_refusal<E: Sink>(alloc: Global, err: &mut E, fail: &EngineFail) -> u8
+    ensures told { E.tells err.new ≡ E.tells err.old }
+    ensures shown { IsTrue (E.tells err.old) → ShowsRefusal fail.now result (E.taken err.old) (E.taken err.new) (E.faults err.old) (E.faults err.new) }
+    ensures fault { nat_eq result 4 ≡ nat_eq (status_of fail.now) 4 }
+    ensures no_words { result ≢ 2 }
+    ensures no_sink { result ≢ 5 }
+{
+    match fail {
+        EngineFail::GitFault => tell(err, GIT_FAILED, 4),
+        EngineFail::SigFault => tell(err, GPGV_FAILED, 4),
+        EngineFail::Memory => tell(err, OUT_OF_MEMORY, 6),
+        fail => match refusal(alloc, fail) {
+            Ok(line) => tell(err, line.as_slice(), own_status(fail)),
+            Err(_) => tell(err, OUT_OF_MEMORY, 6),
+        },
+    }
+}
