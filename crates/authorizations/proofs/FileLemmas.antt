@@ -7,7 +7,7 @@ use Rattle.sexp_reader.specs.Grammar.{IsFirst, IsEmpty}
 use Rattle.sexp_reader.specs.Reading.{first_datum}
 use Rattle.sexp_reader.specs.Tree.{Tree}
 use Rattle.sexp_reader.specs.declared.fail.SexpFail.{SexpFail}
-use Rattle.authorizations.specs.KeySet.{key_cmp, Keys}
+use Rattle.child_ports.specs.KeySet.{key_cmp, Keys}
 use Rattle.authorizations.specs.Authorizations.{IsAuthorizations, IsFile}
 use Rattle.authorizations.specs.Faults.{IsFormFault, HasEntryFault, IsFault}
 use Rattle.authorizations.specs.Reading.{onward, datum_in, entries_of, fingerprints_from, keys_of, Gives}

@@ -1,6 +1,5 @@
 pub mod EntryLemmas
 pub mod FileLemmas
 pub mod FormLemmas
-pub mod KeySetLemmas
 pub mod MeetLemmas
 pub mod ReadingLemmas

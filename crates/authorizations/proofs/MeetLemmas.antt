@@ -5,8 +5,8 @@ use Rattle.std.specs.FinSet.{empty, contains, insert, from_list, intersection, c
 use Rattle.std.specs.Ordering.{eq_by_cmp}
 use Rattle.std.proofs.lemmas.Grind.{take_at_read}
 use Rattle.child_ports.specs.declared.fingerprint.Fingerprint.{Fingerprint}
-use Rattle.authorizations.specs.KeySet.{key_cmp, Keys}
-use Rattle.authorizations.proofs.KeySetLemmas.{key_cmp_total, key_cmp-IsAntisymmetric}
+use Rattle.child_ports.specs.KeySet.{key_cmp, Keys}
+use Rattle.child_ports.proofs.KeySetLemmas.{key_cmp_total, key_cmp-IsAntisymmetric}
 
 same : (s t : Keys) → ((q : Fingerprint) → contains s q ≡ contains t q) → s ≡ t
 same s t is = same_set key_cmp_total key_cmp-IsAntisymmetric s t is

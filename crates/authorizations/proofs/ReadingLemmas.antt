@@ -7,7 +7,7 @@ use Rattle.child_ports.specs.declared.fingerprint.Fingerprint.{Fingerprint}
 use Rattle.sexp_reader.specs.Reading.{first_datum}
 use Rattle.sexp_reader.specs.Tree.{Tree, tree}
 use Rattle.sexp_reader.specs.declared.datum.Datum.{Datum}
-use Rattle.authorizations.specs.KeySet.{key_cmp, Keys}
+use Rattle.child_ports.specs.KeySet.{key_cmp, Keys}
 use Rattle.authorizations.specs.Reading.{onward, key_of, fingerprints_from, datum_in, entries_of, keys_of, Gives}
 use Rattle.authorizations.specs.ReadingInside.{GivesDatum, GivesEntries, GivesKeys}
 use Rattle.authorizations.specs.declared.fail.AuthFail.{AuthFail}

@@ -6,7 +6,7 @@ use Rattle.child_ports.specs.Fingerprint.{fingerprint_in}
 use Rattle.child_ports.specs.declared.fingerprint.Fingerprint.{Fingerprint}
 use Rattle.sexp_reader.specs.Grammar.{IsFirst}
 use Rattle.sexp_reader.specs.Tree.{Tree, symbol, text, number, list_in}
-use Rattle.authorizations.specs.KeySet.{Keys}
+use Rattle.child_ports.specs.KeySet.{Keys}
 
 -- `(version N)`
 abbrev pub IsVersion : ℕ → Tree → Type 0

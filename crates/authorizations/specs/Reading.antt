@@ -7,7 +7,7 @@ use Rattle.child_ports.specs.declared.fingerprint.Fingerprint.{Fingerprint}
 use Rattle.sexp_reader.specs.Reading.{first_datum}
 use Rattle.sexp_reader.specs.Tree.{Tree, symbol_in, text_in, number_in, list_in}
 use Rattle.sexp_reader.specs.declared.fail.SexpFail.{SexpFail}
-use Rattle.authorizations.specs.KeySet.{Keys}
+use Rattle.child_ports.specs.KeySet.{Keys}
 use Rattle.authorizations.specs.declared.fail.AuthFail.{AuthFail}
 use Rattle.authorizations.specs.declared.fail.AuthFail.TheVariants as fail
 

@@ -5,7 +5,7 @@ use Rattle.std.specs.FinSet.{from_list}
 use Rattle.sexp_reader.specs.Reading.{first_datum}
 use Rattle.sexp_reader.specs.Tree.{Tree, tree}
 use Rattle.sexp_reader.specs.declared.datum.Datum.{Datum}
-use Rattle.authorizations.specs.KeySet.{Keys}
+use Rattle.child_ports.specs.KeySet.{Keys}
 use Rattle.authorizations.specs.Reading.{Gives, onward, datum_in, entries_of, fingerprints_from}
 use Rattle.authorizations.specs.declared.fail.AuthFail.{AuthFail}
 use Rattle.authorizations.specs.declared.fail.AuthFail.TheVariants as fail

@@ -7,7 +7,7 @@ ghost use Rattle.sexp_reader.specs.declared.fail.SexpFail.TheVariants as sexp;
 ghost use Rattle.authorizations.specs.Authorizations.{IsFile};
 ghost use Rattle.authorizations.specs.Faults.{IsFault};
 ghost use Rattle.authorizations.specs.Reading.{Gives, is_word, version_from, key_of, keys_of};
-ghost use Rattle.authorizations.specs.KeySet.{Keys};
+ghost use Rattle.child_ports.specs.KeySet.{Keys};
 ghost use Rattle.authorizations.specs.ReadingInside.{GivesDatum, GivesEntries, GivesKeys};
 
 use crate::{AuthFail, Fingerprint, KeySet};

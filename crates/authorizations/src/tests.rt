@@ -1,4 +1,4 @@
-//! Files of authorisations with their keys and faults, and sets of keys.
+//! Files of authorisations with their keys and faults, and what two sets of keys have in common.
 use crate::{AuthFail, Fingerprint, KeySet, meet, read_authorizations};
 use child_ports::Bytes;
 use sexp_reader::SexpFail;
@@ -135,26 +135,6 @@ fn set_of(alloc: Global, bytes: &[u8]) -> Result<KeySet, AllocError> {
         keys.insert(Fingerprint([*byte; 20]))?;
     }
     Ok(keys)
-}
-
-#[test]
-fn a_set_has_the_keys_that_were_put_in(rt: HostRuntime) -> Result<(), Fail> {
-    let keys = set_of(rt.alloc(), &[5, 2, 9, 5, 0, 2])?;
-    assert_eq!(rt; keys.len(), 4);
-    for (byte, want) in [
-        (0, true),
-        (1, false),
-        (2, true),
-        (5, true),
-        (9, true),
-        (255, false),
-    ] {
-        assert_eq!(rt; keys.contains(Fingerprint([byte; 20])), want, "at {byte}");
-    }
-    let none = KeySet::new(rt.alloc());
-    assert_eq!(rt; none.len(), 0);
-    assert!(rt; !none.contains(Fingerprint([0; 20])));
-    Ok(())
 }
 
 #[test]

@@ -4,6 +4,7 @@ pub mod FrameHeader
 pub mod Framed
 pub mod Git
 pub mod Keeper
+pub mod KeySet
 pub mod MemGit
 pub mod MemGitInside
 pub mod MemKeeper

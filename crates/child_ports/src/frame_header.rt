@@ -42,8 +42,8 @@ fn is_type_word(word: &[u8]) -> bool
         || word == b"tag".as_slice()
 }
 
-// The number that is written so, in at most 18 digits without a leading zero.
-fn size_of(digits: &[u8]) -> Option<u64>
+/// The number that is written so, in at most 18 digits without a leading zero.
+pub fn header_size(digits: &[u8]) -> Option<u64>
     ensures some { IfSome result (λ n. (digits.now ≡ decimal n) × (n < 10 ^ 18)) }
     ensures none { IfNone result ((n : ℕ) → n < 10 ^ 18 → digits.now ≢ decimal n) }
 {
@@ -77,7 +77,7 @@ pub fn read_header(bytes: &[u8]) -> Option<FrameHeader<'_>>
         return None;
     }
     let (number, rest) = cut_at(rest, b'\n')?;
-    let size = size_of(number)?;
+    let size = header_size(number)?;
     Some(FrameHeader {
         digits,
         word,

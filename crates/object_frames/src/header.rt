@@ -7,8 +7,7 @@ ghost use Rattle.object_frames.specs.Frame.{header_line};
 
 use crate::{Id, Kind};
 use byte_cuts::after;
-use itoa::Buffer;
-use std::str;
+use child_ports::header_size;
 
 /// What a header line says of an object.
 #[derive(Clone, Copy, Drop)]
@@ -18,28 +17,6 @@ pub struct Header {
     pub size: u64,
     /// How long the line is, its end included.
     pub len: u64,
-}
-
-// The number that is written so, in at most 18 digits.
-fn size_of(digits: &[u8]) -> Option<u64>
-    ensures some { IfSome result (λ n. (digits.now ≡ decimal n) × (n < 10 ^ 18)) }
-    ensures none { IfNone result ((n : ℕ) → n < 10 ^ 18 → digits.now ≢ decimal n) }
-{
-    let Ok(text) = str::from_utf8(digits) else {
-        return None;
-    };
-    let Ok(n) = text.parse::<u64>() else {
-        return None;
-    };
-    if n >= 1_000_000_000_000_000_000 {
-        return None;
-    }
-    let mut buffer = Buffer::new();
-    if buffer.format(n).as_bytes() == digits {
-        Some(n)
-    } else {
-        None
-    }
 }
 
 // The kind of object, and what follows its word.
@@ -73,7 +50,7 @@ pub fn header_of(line: &[u8]) -> Option<Header>
     let (digits, rest) = line.split_at(40);
     let id = Id::of_lower_hex(digits)?;
     let (kind, rest) = kind_of(rest)?;
-    let size = size_of(rest)?;
+    let size = header_size(rest)?;
     let len = line.len() as u64 + 1;
     Some(Header {
         id,

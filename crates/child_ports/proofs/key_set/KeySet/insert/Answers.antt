@@ -2,9 +2,9 @@ use Rattle.std.proofs.Common.{sym, ap, ◌∙◌, subst}
 use Rattle.std.specs.Prelude.{Ok, Err}
 use Rattle.std.specs.FinSet.{from_list, insert}
 use Rattle.std.specs.List.Sorted.{IsStrictlySortedBy}
-use Rattle.authorizations.specs.KeySet.{Keys, key_cmp}
-use Rattle.authorizations.proofs.KeySetLemmas.{searched, insert_found, from_list-insert, IsStrictlySortedBy-insert, key_cmp_total, key_cmp-IsAntisymmetric}
-use Rattle.authorizations.proofs.key_set.KeySet.insert.Goals as goal
+use Rattle.child_ports.specs.KeySet.{Keys, key_cmp}
+use Rattle.child_ports.proofs.KeySetLemmas.{searched, insert_found, from_list-insert, IsStrictlySortedBy-insert, key_cmp_total, key_cmp-IsAntisymmetric}
+use Rattle.child_ports.proofs.key_set.KeySet.insert.Goals as goal
 
 pub invariant_of-self : goal.invariant_of-self
 invariant_of-self c =

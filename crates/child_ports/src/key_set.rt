@@ -2,7 +2,10 @@
 ghost use Rattle.std.specs.Prelude.{◌≡◌, OnOk, OnErr};
 ghost use Rattle.std.specs.FinSet as set;
 ghost use Rattle.std.specs.List.Sorted.{IsStrictlySortedBy};
-ghost use Rattle.authorizations.specs.KeySet.{key_cmp};
+ghost use Rattle.child_ports.specs.KeySet.{key_cmp};
+
+#[cfg(test)]
+mod tests;
 
 use crate::Fingerprint;
 use std::alloc::{AllocError, Global};
@@ -18,7 +21,7 @@ pub struct KeySet {
 impl Model for KeySet {
     ghost use Rattle.std.specs.FinSet.{from_list};
     ghost use Rattle.std.specs.List.Sorted.{IsStrictlySortedBy};
-    ghost use Rattle.authorizations.specs.KeySet.{Keys, coded_keys, key_cmp};
+    ghost use Rattle.child_ports.specs.KeySet.{Keys, coded_keys, key_cmp};
 
     ghost Value = { Keys };
 

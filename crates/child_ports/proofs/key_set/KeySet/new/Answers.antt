@@ -1,5 +1,5 @@
 use Rattle.std.specs.List.Sorted.{IsStrictlySortedBy}
-use Rattle.authorizations.proofs.key_set.KeySet.new.Goals as goal
+use Rattle.child_ports.proofs.key_set.KeySet.new.Goals as goal
 
 pub invariant_of-result : goal.invariant_of-result
 unfolding IsStrictlySortedBy

@@ -1,8 +1,8 @@
 use Rattle.std.proofs.Common.{sym, ap, ◌∙◌}
 use Rattle.std.specs.FinSet.{contains}
-use Rattle.authorizations.specs.KeySet.{Keys}
-use Rattle.authorizations.proofs.KeySetLemmas.{searched, contains_found, key_cmp_total}
-use Rattle.authorizations.proofs.key_set.KeySet.contains.Goals as goal
+use Rattle.child_ports.specs.KeySet.{Keys}
+use Rattle.child_ports.proofs.KeySetLemmas.{searched, contains_found, key_cmp_total}
+use Rattle.child_ports.proofs.key_set.KeySet.contains.Goals as goal
 
 pub returns : goal.returns
 returns c =

@@ -1,8 +1,8 @@
 use Rattle.std.proofs.Common.{sym, ap, ◌∙◌}
 use Rattle.std.specs.FinSet.{len}
-use Rattle.authorizations.specs.KeySet.{Keys}
-use Rattle.authorizations.proofs.KeySetLemmas.{key_cmp_total, len-from_list}
-use Rattle.authorizations.proofs.key_set.KeySet.len.Goals as goal
+use Rattle.child_ports.specs.KeySet.{Keys}
+use Rattle.child_ports.proofs.KeySetLemmas.{key_cmp_total, len-from_list}
+use Rattle.child_ports.proofs.key_set.KeySet.len.Goals as goal
 
 pub returns : goal.returns
 returns c =

@@ -17,7 +17,7 @@ use Rattle.std.proofs.lemmas.List.Sorted.{searchable_from_sorted, IsPermutation-
 use Rattle.std.proofs.lemmas.Map.Keys.{Less-from_sorted, sorted_from_all_adjacent}
 use Rattle.std.proofs.lemmas.Map.Views.{All-after_first}
 use Rattle.child_ports.specs.declared.fingerprint.Fingerprint.{Fingerprint}
-use Rattle.authorizations.specs.KeySet.{key_cmp}
+use Rattle.child_ports.specs.KeySet.{key_cmp}
 
 module _ {K : Type 0} {R : K → K → Ordering} (o : IsTotalOrder R) where
   turned : (x y : K) (r : Ordering) → R x y ≡ r → R y x ≡ ordering_reverse r
