@@ -13,4 +13,5 @@ pub mod ReachingLemmas
 pub mod SettingLemmas
 pub mod SettlingLemmas
 pub mod StepLemmas
+pub mod UncoveredLemmas
 pub mod WalkLemmas

@@ -160,7 +160,7 @@ missing_cases nodes (Some x) found lowers = elim (lowers.from x refl) [
 
     missing : (x : Name) → is_in (all_parents nodes) x ≡ true → is_some (node_at nodes x) ≡ false → IsMissing (held_of nodes) x
     missing x t gone =
-        let d : Name × Node = (x, record { parents = []; level = Unknown; place = 0 }) in
+        let d : Name × Node = (x, record { parents = []; level = Unknown; place = 0; place_as_parent = 0 }) in
         let at = from_all nodes d x t in
         let e : Name × Node = slice_index_or nodes at.0 d in
         record { child = e.0; parent = place_parent nodes e.0 e.1 x (found at.0 d at.1) (is_in-place e.1.parents x at.2); absent = held_no nodes (held_of nodes) x refl gone }

@@ -47,24 +47,24 @@ ranking_step held nodes new ids work after i id ranking low at settles empty = r
 }
 
 abbrev blank : Node → Node
-blank n = record { parents = n.parents; level = Unknown; place = n.place }
+blank n = record { parents = n.parents; level = Unknown; place = n.place; place_as_parent = n.place_as_parent }
 
-node_forgotten : (nodes : List (Name × Node)) (id : Name) → node_at (forgotten nodes) id ≡ option_map (λ (n : Node). record { parents = n.parents; level = Unknown; place = n.place }) (node_at nodes id)
+node_forgotten : (nodes : List (Name × Node)) (id : Name) → node_at (forgotten nodes) id ≡ option_map (λ (n : Node). record { parents = n.parents; level = Unknown; place = n.place; place_as_parent = n.place_as_parent }) (node_at nodes id)
 node_forgotten [] id = refl
-node_forgotten (e ∷ nodes) id = ap (cond {A = Option Node} (is_at (name_cmp id) e.0) (Some (record { parents = e.1.parents; level = Unknown; place = e.1.place }))) (node_forgotten nodes id) ∙ mapped (is_at (name_cmp id) e.0) (node_at nodes id)
+node_forgotten (e ∷ nodes) id = ap (cond {A = Option Node} (is_at (name_cmp id) e.0) (Some (record { parents = e.1.parents; level = Unknown; place = e.1.place; place_as_parent = e.1.place_as_parent }))) (node_forgotten nodes id) ∙ mapped (is_at (name_cmp id) e.0) (node_at nodes id)
   where
-    mapped : (b : Bool) (o : Option Node) → cond {A = Option Node} b (Some (record { parents = e.1.parents; level = Unknown; place = e.1.place })) (option_map (λ (n : Node). record { parents = n.parents; level = Unknown; place = n.place }) o) ≡ option_map (λ (n : Node). record { parents = n.parents; level = Unknown; place = n.place }) (cond b (Some e.1) o)
+    mapped : (b : Bool) (o : Option Node) → cond {A = Option Node} b (Some (record { parents = e.1.parents; level = Unknown; place = e.1.place; place_as_parent = e.1.place_as_parent })) (option_map (λ (n : Node). record { parents = n.parents; level = Unknown; place = n.place; place_as_parent = n.place_as_parent }) o) ≡ option_map (λ (n : Node). record { parents = n.parents; level = Unknown; place = n.place; place_as_parent = n.place_as_parent }) (cond b (Some e.1) o)
     mapped true o = refl
     mapped false o = refl
 
-parents_forgotten : (o : Option Node) → option_map parents_of (option_map (λ (n : Node). record { parents = n.parents; level = Unknown; place = n.place }) o) ≡ option_map parents_of o
+parents_forgotten : (o : Option Node) → option_map parents_of (option_map (λ (n : Node). record { parents = n.parents; level = Unknown; place = n.place; place_as_parent = n.place_as_parent }) o) ≡ option_map parents_of o
 parents_forgotten None = refl
 parents_forgotten (Some n) = refl
 
 held_forgotten : (nodes : List (Name × Node)) → held_of (forgotten nodes) ≡ held_of nodes
 held_forgotten nodes = held-same nodes (forgotten nodes) (λ q. ap (option_map parents_of) (node_forgotten nodes q) ∙ parents_forgotten (node_at nodes q))
 
-no_level : (l : Level) → (Unknown ≢ l) → (o : Option Node) → option_map level_of (option_map (λ (n : Node). record { parents = n.parents; level = Unknown; place = n.place }) o) ≢ Some l
+no_level : (l : Level) → (Unknown ≢ l) → (o : Option Node) → option_map level_of (option_map (λ (n : Node). record { parents = n.parents; level = Unknown; place = n.place; place_as_parent = n.place_as_parent }) o) ≢ Some l
 no_level l h None e = cc
 no_level l h (Some n) e = h (one l e)
   where
@@ -89,7 +89,7 @@ ranking_start held nodes new ids work is few blanked empty = subst (λ es. IsRan
 })
 
 pub length_forgotten : (nodes new : List (Name × Node)) → new ≡ forgotten nodes → length new ≡ length nodes
-length_forgotten nodes new e = ap length e ∙ length-map {B = Name × Node} nodes (λ (e : Name × Node). (e.0, record { parents = e.1.parents; level = Unknown; place = e.1.place }))
+length_forgotten nodes new e = ap length e ∙ length-map {B = Name × Node} nodes (λ (e : Name × Node). (e.0, record { parents = e.1.parents; level = Unknown; place = e.1.place; place_as_parent = e.1.place_as_parent }))
 
 -- in the keys, and in the map
 pub in_keys : (nodes : List (Name × Node)) (id : Name) → is_some (node_at nodes id) ≡ is_in (keys_of nodes) id

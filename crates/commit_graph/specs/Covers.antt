@@ -9,6 +9,10 @@ use Rattle.commit_graph.specs.History.{Name, name_cmp}
 abbrev pub Parenthood : Type 1
 Parenthood = Name → Name → Type 0
 
+-- that of each commit's list of parents
+abbrev pub listed_in : (Name → List Name) → Parenthood
+listed_in parents c p = Contains (parents c) p
+
 -- either reaches it
 abbrev pub IsWithin : Parenthood → Name → Name → Name → Type 0
 IsWithin IsParent target intro c = Reaches IsParent target c ⊎ Reaches IsParent intro c
@@ -47,6 +51,10 @@ pub record IsCoveredByEntry (IsParent : Parenthood) (target intro : Name) (entri
 -- the introduction or an entry that counts reaches the commit
 abbrev pub IsCovered : Parenthood → Name → Name → List Name → Name → Type 0
 IsCovered IsParent target intro entries c = Reaches IsParent intro c ⊎ IsCoveredByEntry IsParent target intro entries c
+
+-- each parent of a commit of the kind is of the kind
+abbrev pub HasItsParents : Parenthood → (Name → Type 0) → Type 0
+HasItsParents IsParent IsOfKind = (c p : Name) → IsOfKind c → IsParent c p → IsOfKind p
 
 -- the target reaches it, and it isn't covered
 abbrev pub IsUncovered : Parenthood → Name → Name → List Name → Name → Type 0

@@ -64,7 +64,7 @@ pub record IsSettled (nodes : List (Name × Node)) (id : Name) (n : ℕ) : Type 
 
 -- what the levels of its parents say of a commit
 abbrev pub IsStep : List (Name × Node) → Name → Step Name → Type 0
-IsStep nodes id (Enter p) = IsParent (held_of nodes) id p × (level_at nodes p ≡ Some Unknown)
+IsStep nodes id (Enter p place) = IsParent (held_of nodes) id p × (level_at nodes p ≡ Some Unknown)
 IsStep nodes id (Settle n) = IsSettled nodes id n
 IsStep nodes id GiveUp = (p : Name) × IsParent (held_of nodes) id p × ((level_at nodes p ≡ Some Entered) ⊎ (level_at nodes p ≡ Some Endless))
 
@@ -122,7 +122,7 @@ lower nodes least id = cond (is_some (node_at nodes id)) least (lesser_of least 
 
 -- no commit is looked at yet
 abbrev pub forgotten : List (Name × Node) → List (Name × Node)
-forgotten nodes = map (λ e. (e.0, record { parents = e.1.parents; level = Unknown; place = e.1.place })) nodes
+forgotten nodes = map (λ e. (e.0, record { parents = e.1.parents; level = Unknown; place = e.1.place; place_as_parent = e.1.place_as_parent })) nodes
 
 -- the first of the ids that has no generation
 abbrev pub IsFirstEndless : List (Name × Node) → List Name → Option Name → Type 0

@@ -6,4 +6,5 @@ pub mod Level
 pub mod Node
 pub mod Reaching
 pub mod Relation
+pub mod Uncovering
 pub mod Walk

@@ -3,8 +3,8 @@ ghost use Rattle.std.specs.Prelude.{◌≡◌, ◌≤◌, ◌↔◌, ℕ, true, 
 ghost use Rattle.std.specs.Option.{option_copied};
 ghost use Rattle.std.specs.FinMap as fin;
 ghost use Rattle.std.specs.FinSet as set;
-ghost use Rattle.commit_graph.specs.Chains.{IsGeneration};
-ghost use Rattle.commit_graph.specs.Covers.{HasGeneration};
+ghost use Rattle.commit_graph.specs.Chains.{Reaches, IsGeneration};
+ghost use Rattle.commit_graph.specs.Covers.{HasGeneration, AreUncovered};
 ghost use Rattle.commit_graph.specs.Fail.{AddFails, HasRoom, RankFails};
 ghost use Rattle.commit_graph.specs.History.{Name, Holds, IsParent, IsWhole, IsMissing, IsLeast, IsReachedFrom};
 ghost use Rattle.commit_graph.specs.Relation.{IsRelation};
@@ -14,6 +14,7 @@ use crate::level::Level;
 use crate::node::{Node, Nodes, first_endless, forget_levels, ids_held, least_absent, level};
 use crate::ranking::settle;
 use crate::reaching::reaches;
+use crate::uncovering::{bare_rows, counted, ids_of};
 use crate::walk::Walk;
 use crate::{GraphFail, Marks, Relation};
 use object_frames::{Id, IdList};
@@ -82,6 +83,7 @@ impl Graph {
             parents,
             level: Level::Unknown,
             place: 0,
+            place_as_parent: 0,
         };
         let Ok(_) = self.nodes.insert(id, node) else {
             return Err(GraphFail::Memory);
@@ -142,6 +144,20 @@ impl Graph {
             i += 1;
         }
         Ok(walk.into_marks())
+    }
+
+    // Marks the commit and all its ancestors.
+    fn history(&self, alloc: Global, id: Id) -> Result<Marks, GraphFail>
+        requires held { Holds self.now.held id }
+        requires whole { IsWhole self.now.held }
+        ensures reached { IfOk result (λ marks. (q : Name)
+            → IsTrue (set.contains marks q) ↔ Reaches (IsParent self.now.held) id q) }
+        ensures err { IfErr result (λ e. e ≡ GraphFail.Memory) }
+    {
+        let Ok(ids) = IdList::from_slice(alloc, &[id]) else {
+            return Err(GraphFail::Memory);
+        };
+        self.closure(alloc, &ids)
     }
 
     // The least parent that isn't held.
@@ -209,6 +225,30 @@ impl Graph {
             Some(Level::Known(n)) => Some(n),
             _ => None,
         }
+    }
+
+    /// The commits that the target reaches and that neither the introduction nor a counted entry reaches, by generation and
+    /// then id. An entry counts where the target or the introduction reaches it.
+    pub fn uncovered(
+        &self,
+        alloc: Global,
+        target: Id,
+        intro: Id,
+        entries: &IdList,
+    ) -> Result<IdList, GraphFail>
+        requires ranked { IsTrue self.now.ranked }
+        requires holds_target { Holds self.now.held target }
+        requires holds_intro { Holds self.now.held intro }
+        ensures uncovered { IfOk result (AreUncovered (IsParent self.now.held) target intro entries.now) }
+        ensures err { IfErr result (λ e. e ≡ GraphFail.Memory) }
+    {
+        let nodes = &self.nodes;
+        let near = self.history(alloc, target)?;
+        let far = self.history(alloc, intro)?;
+        let kept = counted(alloc, &near, &far, intro, entries.as_slice())?;
+        let covered = self.closure(alloc, &kept)?;
+        let rows = bare_rows(alloc, nodes, &near, &covered)?;
+        ids_of(alloc, &rows)
     }
 
     /// How the old commit stands to the new one. It takes no memory, since `rank` took it.

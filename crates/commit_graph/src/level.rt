@@ -16,8 +16,8 @@ pub enum Level {
 /// What is to be done with a commit whose ancestors are being looked at.
 #[derive(Clone, Copy, Drop)]
 pub enum Step<T> {
-    /// This parent isn't looked at yet.
-    Enter(T),
+    /// This parent, at this place, isn't looked at yet.
+    Enter(T, usize),
     /// Its generation is this.
     Settle(u32),
     /// It has no generation.

@@ -1,7 +1,8 @@
 //! The commits of a graph in an ordered map, and what is kept of each.
-ghost use Rattle.std.specs.Prelude.{◌≡◌, fold, IfOk};
+ghost use Rattle.std.specs.Prelude.{◌≡◌, fold, Some, IfOk, IfSome};
 ghost use Rattle.std.specs.BTreeMap.{keys, IsOrdered};
-ghost use Rattle.commit_graph.specs.History.{name_cmp};
+ghost use Rattle.commit_graph.specs.History.{name_cmp, IsParent};
+ghost use Rattle.commit_graph.specs.Node.{held_of};
 ghost use Rattle.commit_graph.specs.Level.{level_at, SetsLevel, IsStep, AreSmall, lower, forgotten, IsFirstEndless};
 
 use crate::level::{Level, Step};
@@ -16,6 +17,8 @@ pub struct Node {
     pub level: Level,
     /// Its place in the list of work, if it is there.
     pub place: usize,
+    /// Its place among the parents of the commit from which it was entered.
+    pub place_as_parent: usize,
 }
 
 pub type Nodes = BTreeMap<Id, Node>;
@@ -38,8 +41,54 @@ pub fn set_level(nodes: &mut Nodes, id: Id, to: Level)
     }
 }
 
-/// What the levels of its parents say of a commit.
-pub fn next_step(nodes: &Nodes, id: Id) -> Step<Id>
+/// The commit's ancestors are looked at from now on. It was entered as the parent at this place.
+pub fn enter_at(nodes: &mut Nodes, id: Id, place: usize)
+    ensures { SetsLevel nodes.old.entries nodes.new.entries id Level.Entered }
+{
+    if let Some(node) = nodes.get_mut(&id) {
+        node.level = Level::Entered;
+        node.place_as_parent = place;
+    }
+}
+
+/// The place after that at which the commit was entered. It saves time alone, so no clause speaks of it.
+pub fn place_after(nodes: &Nodes, id: Id) -> usize {
+    match nodes.get(&id) {
+        Some(node) => node.place_as_parent.saturating_add(1),
+        None => 0,
+    }
+}
+
+// The first parent from this place on that isn't looked at yet, and its place.
+fn next_unknown(nodes: &Nodes, id: Id, from: usize) -> Option<(Id, usize)>
+    ensures { IfSome result (λ found. IsParent (held_of nodes.now.entries) id found.0 × (level_at nodes.now.entries found.0 ≡ Some Level.Unknown)) }
+{
+    let Some(node) = nodes.get(&id) else {
+        return None;
+    };
+    let parents = node.parents.as_slice();
+    for i in from..parents.len() {
+        let parent = parents[i];
+        if level(nodes, parent) == Some(Level::Unknown) {
+            return Some((parent, i));
+        }
+    }
+    None
+}
+
+/// What the levels of its parents say of a commit. The place tells where to look first, and the answer doesn't rest on it.
+pub fn next_step(nodes: &Nodes, id: Id, from: usize) -> Step<Id>
+    requires { AreSmall nodes.now.entries }
+    ensures { IsStep nodes.now.entries id result }
+{
+    match next_unknown(nodes, id, from) {
+        Some((parent, place)) => Step::Enter(parent, place),
+        None => step_by_all(nodes, id),
+    }
+}
+
+// What the levels of all its parents say of a commit.
+fn step_by_all(nodes: &Nodes, id: Id) -> Step<Id>
     requires { AreSmall nodes.now.entries }
     ensures { IsStep nodes.now.entries id result }
 {
@@ -49,7 +98,8 @@ pub fn next_step(nodes: &Nodes, id: Id) -> Step<Id>
     let mut greatest: u32 = 0;
     for parent in node.parents.as_slice() {
         match level(nodes, *parent) {
-            Some(Level::Unknown) => return Step::Enter(*parent),
+            // There is none where the place to look first was right.
+            Some(Level::Unknown) => return Step::Enter(*parent, 0),
             Some(Level::Entered) => return Step::GiveUp,
             Some(Level::Known(n)) => greatest = greatest.max(n),
             Some(Level::Endless) => return Step::GiveUp,

@@ -7,11 +7,11 @@ ghost use Rattle.commit_graph.specs.Walk.{is_in};
 
 use crate::GraphFail;
 use crate::level::{Level, Step};
-use crate::node::{Nodes, level, next_step, set_level};
+use crate::node::{Nodes, enter_at, level, next_step, place_after, set_level};
 use object_frames::Id;
 
 // The commit is looked at now.
-fn enter(nodes: &mut Nodes, trail: &mut Vec<Id>, id: Id) -> Result<(), GraphFail>
+fn enter(nodes: &mut Nodes, trail: &mut Vec<Id>, id: Id, place: usize) -> Result<(), GraphFail>
     ensures trail { OnOk result (trail.new.items ≡ trail.old.items ++ id ∷ []) }
     ensures nodes { OnOk result (SetsLevel nodes.old.entries nodes.new.entries id Level.Entered) }
     ensures same { OnErr result (nodes.new.entries ≡ nodes.old.entries) }
@@ -20,7 +20,7 @@ fn enter(nodes: &mut Nodes, trail: &mut Vec<Id>, id: Id) -> Result<(), GraphFail
     let Ok(_) = trail.push(id) else {
         return Err(GraphFail::Memory);
     };
-    set_level(nodes, id, Level::Entered);
+    enter_at(nodes, id, place);
     Ok(())
 }
 
@@ -50,12 +50,17 @@ pub fn settle(nodes: &mut Nodes, trail: &mut Vec<Id>, id: Id) -> Result<(), Grap
     if level(nodes, id) != Some(Level::Unknown) {
         return Ok(());
     }
-    enter(nodes, trail, id)?;
+    enter(nodes, trail, id, 0)?;
+    let mut from = 0;
     while trail.len() > 0 {
         let top = trail[trail.len() - 1];
-        match next_step(nodes, top) {
-            Step::Enter(parent) => enter(nodes, trail, parent)?,
+        match next_step(nodes, top, from) {
+            Step::Enter(parent, place) => {
+                enter(nodes, trail, parent, place)?;
+                from = 0;
+            }
             Step::Settle(n) => {
+                from = place_after(nodes, top);
                 set_level(nodes, top, Level::Known(n));
                 let _ = trail.pop();
             }

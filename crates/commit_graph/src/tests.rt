@@ -1,4 +1,4 @@
-//! Histories of four commits and fewer, with ample memory.
+//! Small histories, and a long line, with ample memory.
 use crate::{Graph, GraphFail, Marks, Relation};
 use object_frames::{Id, IdList};
 use std::alloc::Global;
@@ -45,6 +45,21 @@ fn reached(rt: &impl Abort, alloc: Global, graph: &Graph, from: Id) -> Result<Ma
         panic!(rt; "a parent is missing");
     }
     Ok(graph.closure(alloc, &list)?)
+}
+
+// What is left of the target's history.
+fn left(
+    rt: &impl Abort,
+    alloc: Global,
+    graph: &mut Graph,
+    target: Id,
+    intro: Id,
+    entries: &[u8],
+) -> Result<IdList, Fail> {
+    graph.rank()?;
+    assert!(rt; graph.holds(target), "the target is held");
+    assert!(rt; graph.holds(intro), "the introduction is held");
+    Ok(graph.uncovered(alloc, target, intro, &ids(alloc, entries)?)?)
 }
 
 // How two commits stand to each other.
@@ -141,5 +156,75 @@ fn commits_that_meet_later_are_unrelated(rt: HostRuntime) -> Result<(), Fail> {
         );
     }
     assert_eq!(rt; graph.generation(id(1)), Some(3), "it is ranked still");
+    Ok(())
+}
+
+#[test]
+fn what_is_left_of_a_history_comes_by_generation_and_then_id(rt: HostRuntime) -> Result<(), Fail> {
+    let alloc = rt.alloc();
+    let mut graph = rooted(alloc)?;
+    // target, introduction, entries of the cache, and what is left
+    let rows: [(u8, u8, &[u8], &[u8]); 9] = [
+        (1, 9, &[], &[3, 4, 1]),
+        (1, 4, &[], &[3, 1]),
+        (1, 9, &[4], &[3, 1]),
+        (1, 9, &[4, 3], &[1]),
+        // not reached, though it reaches the target; and not held
+        (4, 9, &[1], &[4]),
+        (1, 9, &[7], &[3, 4, 1]),
+        // the introduction is on another line, is the target, is its descendant
+        (4, 3, &[], &[4]),
+        (4, 4, &[], &[]),
+        (3, 1, &[], &[]),
+    ];
+    for (target, intro, entries, want) in rows {
+        let found = left(&rt, alloc, &mut graph, id(target), id(intro), entries)?;
+        let want = ids(alloc, want)?;
+        assert_eq!(rt;
+            found.as_slice(),
+            want.as_slice(),
+            "of {target} beyond {intro}"
+        );
+    }
+    Ok(())
+}
+
+#[test]
+fn a_parent_that_is_listed_twice_counts_once(rt: HostRuntime) -> Result<(), Fail> {
+    let alloc = rt.alloc();
+    let mut graph = rooted(alloc)?;
+    graph.add(id(8), &ids(alloc, &[1, 9, 1])?)?;
+    let found = left(&rt, alloc, &mut graph, id(8), id(4), &[])?;
+    assert_eq!(rt; found.as_slice(), [id(3), id(1), id(8)].as_slice());
+    assert_eq!(rt; graph.generation(id(8)), Some(4));
+    Ok(())
+}
+
+// The ids of a line: the first has the greatest, and each other has the one before as its parent.
+fn on_the_line(n: u16) -> Id {
+    let mut bytes = [0u8; 20];
+    let number = (999 - n.min(999)).to_be_bytes();
+    bytes[0] = number[0];
+    bytes[1] = number[1];
+    Id::of_bytes(bytes)
+}
+
+fn line(alloc: Global) -> Result<Graph, Fail> {
+    let mut graph = Graph::new(alloc);
+    graph.add(on_the_line(0), &IdList::new(alloc))?;
+    for n in 1..1000 {
+        let mut parents = IdList::new(alloc);
+        parents.push(on_the_line(n - 1))?;
+        graph.add(on_the_line(n), &parents)?;
+    }
+    Ok(graph)
+}
+
+#[test]
+fn the_tip_of_a_line_has_its_length_as_generation(rt: HostRuntime) -> Result<(), Fail> {
+    let mut graph = line(rt.alloc())?;
+    graph.rank()?;
+    assert_eq!(rt; graph.len(), 1000);
+    assert_eq!(rt; graph.generation(on_the_line(999)), Some(1000));
     Ok(())
 }

@@ -5,7 +5,7 @@ use Rattle.commit_graph.proofs.node.set_level.Goals as goal
 
 pub returns-in-Some : goal.returns-in-Some
 returns-in-Some c =
-    let w : Node = record { parents = c.in-Some.node.now.parents; level = c.args.to; place = c.in-Some.node.now.place } in
+    let w : Node = record { parents = c.in-Some.node.now.parents; level = c.args.to; place = c.in-Some.node.now.place; place_as_parent = c.in-Some.node.now.place_as_parent } in
     sets_level c.args.nodes.now (c.get_mut.follows.lender w) c.args.id c.in-Some.node.now w c.args.to (sym c.in-Some.ensures.value) refl refl (c.get_mut.follows.holds w)
 
 pub returns-in_default : goal.returns-in_default

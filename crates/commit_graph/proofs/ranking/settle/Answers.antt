@@ -26,8 +26,8 @@ loop-trail-init c =
       λ e. some_not (sym (set_there c.args.nodes.now.entries c.enter.new.nodes.entries c.args.id Entered Unknown c.in_ok-enter.ensures.nodes at) ∙ e),
     )
 
-pub loop-trail-preserved-in-Continue-branch-2 : goal.loop-trail-preserved-in-Continue-branch-2
-loop-trail-preserved-in-Continue-branch-2 c =
+pub loop-trail-preserved-in-Enter : goal.loop-trail-preserved-in-Enter
+loop-trail-preserved-in-Enter c =
     let nodes = c.loop-trail.nodes.entries in
     let trail = c.loop-trail.trail.items in
     let last : (j : ℕ) (e : Name) → j + 1 ≡ length trail → slice_index_or trail j e ≡ c.index-top.result.now = last_is trail c.len-in-loop-trail.result c.index-top.result.now (omega (arith, c.loop-trail.trail.ok.0, c.len-in-loop-trail.ensures)) (omega (arith, c.loop-trail-test.true, c.len.ensures, c.len-in-loop-trail.ensures)) c.index-top.ensures in (

@@ -6,8 +6,8 @@ use Rattle.commit_graph.specs.Level.{node_at}
 use Rattle.commit_graph.specs.declared.node.Node.{Node}
 use Rattle.commit_graph.proofs.HeldLemmas.{parents_of}
 use Rattle.commit_graph.proofs.StepLemmas.{Sofar, settled, settled_bare, place_parent, sofar_none, sofar_known}
-use Rattle.commit_graph.proofs.node.next_step.Goals as goal
-use Rattle.commit_graph.proofs.node.next_step.Goals.{in-Some-Known, in-None}
+use Rattle.commit_graph.proofs.node.step_by_all.Goals as goal
+use Rattle.commit_graph.proofs.node.step_by_all.Goals.{in-Some-Known, in-None}
 
 -- the item of a turn is a parent
 turn : (nodes : List (Name × Node)) (id : Name) (node : Node) (items : List Name) (i : ℕ) (x : Name) → Some node ≡ node_at nodes id → items ≡ parents_of node → i < length items → x ≡ slice_index_or items i x → IsParent (held_of nodes) id x

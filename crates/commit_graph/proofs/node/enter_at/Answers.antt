@@ -1,0 +1,13 @@
+use Rattle.std.proofs.Common.{ap, sym, refl}
+use Rattle.commit_graph.specs.declared.node.Node.{Node}
+use Rattle.commit_graph.specs.declared.level.Level.TheVariants.{Entered}
+use Rattle.commit_graph.proofs.SettingLemmas.{sets_level, sets_no_level}
+use Rattle.commit_graph.proofs.node.enter_at.Goals as goal
+
+pub returns-in-Some : goal.returns-in-Some
+returns-in-Some c =
+    let w : Node = record { parents = c.in-Some.node.now.parents; level = Entered; place = c.in-Some.node.now.place; place_as_parent = c.args.place } in
+    sets_level c.args.nodes.now (c.get_mut.follows.lender w) c.args.id c.in-Some.node.now w Entered (sym c.in-Some.ensures.value) refl refl (c.get_mut.follows.holds w)
+
+pub returns-in_default : goal.returns-in_default
+returns-in_default c = sets_no_level c.args.nodes.now.entries c.get_mut.follows.lender-at-none.entries c.args.id Entered (sym c.in_default.ensures.value) (ap (λ m. m.entries) c.get_mut.follows.holds-at-none)
