@@ -1,11 +1,14 @@
 //! The texts that the program prints, as functions of what it answers.
 //!
-//! [`refusal`] gives the line for a target that isn't accepted. `specs/Texts.antt` has every text.
+//! [`refusal`] gives the line for a target that isn't accepted, [`file_refusal`] that for a file which words name.
+//! `specs/Texts.antt` and `specs/FileTexts.antt` have every text.
 #![tactic(auto)]
 
 mod causes;
+mod files;
 mod parts;
 mod refusals;
 mod whats;
 
+pub use files::{FileFail, file_refusal};
 pub use refusals::refusal;

@@ -1,2 +1,4 @@
+pub mod Historical
 pub mod Run
 pub mod Words
+pub mod WordsInside

@@ -1,5 +1,5 @@
 -- What a run shows: its status, and what it puts on standard output and standard error.
-use Rattle.std.specs.Prelude.{◌≡◌, ◌⊎◌, ◌++◌, ℕ, Bool, true, false, List, [], ◌∷◌, codes, nat_eq, Option, Some, None, Result, Ok, Err, MatchBool}
+use Rattle.std.specs.Prelude.{◌≡◌, ◌⊎◌, ◌++◌, ℕ, Bool, true, false, List, [], ◌∷◌, codes, nat_eq, Option, Some, None, option_map, Result, Ok, Err, MatchBool}
 use Rattle.child_ports.specs.declared.git.GitRow.{GitRow}
 use Rattle.child_ports.specs.declared.sig.SigRow.{SigRow}
 use Rattle.child_ports.specs.Causes.{Rose, Stayed}
@@ -14,6 +14,12 @@ use Rattle.guix_auth_cli.specs.declared.words.Plan.{Plan}
 use Rattle.guix_auth_cli.specs.declared.words.Command.{Command}
 use Rattle.guix_auth_cli.specs.declared.words.Command.TheVariants.{Help, Authenticate}
 use Rattle.guix_auth_cli.specs.declared.help.TheConstants.{HELP}
+use Rattle.auth_report.specs.declared.files.FileFail.{FileFail}
+use Rattle.auth_report.specs.declared.files.FileFail.TheVariants as file
+use Rattle.auth_report.specs.FileTexts.{file_line}
+use Rattle.child_ports.specs.Keeper.{Kept}
+use Rattle.child_ports.specs.KeySet.{Keys}
+use Rattle.guix_auth_cli.specs.Historical.{keys_at}
 use Rattle.guix_auth_cli.specs.Words.{command_of}
 
 pub record Answer : Type 0 where
@@ -44,14 +50,40 @@ abbrev pub answer_for : Result Verdict EngineFail → Answer
 answer_for (Ok verdict) = record { status = 0; out = []; err = [] }
 answer_for (Err fail) = refused fail
 
-abbrev pub answer_to : List GitRow → List SigRow → Option Command → Answer
-answer_to rows sigs None = record { status = 2; out = []; err = line_of (codes "bad words; see guix-auth --help") }
-answer_to rows sigs (Some Help) = record { status = 0; out = HELP.now; err = [] }
-answer_to rows sigs (Some (Authenticate plan)) = answer_for (outcome rows sigs (task_for plan))
+-- a file of the words gives no keys
+abbrev pub file_refused : List ℕ → FileFail → Answer
+file_refused path fail = record { status = 3; out = []; err = file_line path fail }
 
--- the answer to words, over git's answers and gpgv's verdicts
-abbrev pub answer_of : List GitRow → List SigRow → List (List ℕ) → Answer
-answer_of rows sigs words = answer_to rows sigs (command_of words)
+-- a file of the words can't be read
+abbrev pub file_unread : List ℕ → Answer
+file_unread path = record { status = 5; out = []; err = file_line path file.Failed }
+
+-- the task of the plan is checked once its file has given keys
+abbrev pub after_file : List GitRow → List SigRow → Plan → List ℕ → Result Keys FileFail → Answer
+after_file rows sigs plan path (Ok keys) = answer_for (outcome rows sigs (task_for plan))
+after_file rows sigs plan path (Err fail) = file_refused path fail
+
+abbrev pub answer_naming : List GitRow → List SigRow → Kept → Plan → Option (List ℕ) → Answer
+answer_naming rows sigs files plan None = answer_for (outcome rows sigs (task_for plan))
+answer_naming rows sigs files plan (Some path) = after_file rows sigs plan path (keys_at files path)
+
+-- the answer to a plan
+abbrev pub answer_by : List GitRow → List SigRow → Kept → Plan → Answer
+answer_by rows sigs files plan = answer_naming rows sigs files plan plan.historical
+
+abbrev pub answer_to : List GitRow → List SigRow → Kept → Option Command → Answer
+answer_to rows sigs files None = record { status = 2; out = []; err = line_of (codes "bad words; see guix-auth --help") }
+answer_to rows sigs files (Some Help) = record { status = 0; out = HELP.now; err = [] }
+answer_to rows sigs files (Some (Authenticate plan)) = answer_by rows sigs files plan
+
+-- the answer to words, over git's answers, gpgv's verdicts and the files
+abbrev pub answer_of : List GitRow → List SigRow → Kept → List (List ℕ) → Answer
+answer_of rows sigs files words = answer_to rows sigs files (command_of words)
+
+-- the answer to a command where its file can't be read
+abbrev pub unread_by : Option Command → Option Answer
+unread_by (Some (Authenticate plan)) = option_map file_unread plan.historical
+unread_by _ = None
 
 -- A child's fault is the answer only where a call on its port failed; want of memory may be the answer at any time.
 abbrev pub MayAnswer : Answer → ℕ → ℕ → ℕ → ℕ → Answer → Type 0
@@ -59,10 +91,23 @@ MayAnswer due git_before git_now gpgv_before gpgv_now answer =
     (answer ≡ due) ⊎ (answer ≡ refused Memory)
     ⊎ ((answer ≡ refused GitFault) × Rose git_before git_now) ⊎ ((answer ≡ refused SigFault) × Rose gpgv_before gpgv_now)
 
+-- The answer that a file can't be read comes only where a call of the room failed.
+abbrev pub MayEnd : Answer → Option Answer → ℕ → ℕ → ℕ → ℕ → ℕ → ℕ → Answer → Type 0
+MayEnd due unread git_before git_now gpgv_before gpgv_now room_before room_now answer =
+    MayAnswer due git_before git_now gpgv_before gpgv_now answer ⊎ ((unread ≡ Some answer) × Rose room_before room_now)
+
+-- A status comes exactly where a call on one of two ports failed.
+abbrev pub IsFaultOf : ℕ → ℕ → ℕ → ℕ → ℕ → ℕ → Type 0
+IsFaultOf own status one_before one_now other_before other_now =
+    MatchBool (nat_eq status own) (Rose one_before one_now ⊎ Rose other_before other_now) ((one_now ≡ one_before) × (other_now ≡ other_before))
+
 -- Status 4 comes exactly where a call on one of the children's ports failed.
 abbrev pub IsChildFault : ℕ → ℕ → ℕ → ℕ → ℕ → Type 0
-IsChildFault status git_before git_now gpgv_before gpgv_now =
-    MatchBool (nat_eq status 4) (Rose git_before git_now ⊎ Rose gpgv_before gpgv_now) ((git_now ≡ git_before) × (gpgv_now ≡ gpgv_before))
+IsChildFault status git_before git_now gpgv_before gpgv_now = IsFaultOf 4 status git_before git_now gpgv_before gpgv_now
+
+-- Status 5 comes exactly where a call of the room or of standard output failed.
+abbrev pub IsOtherFault : ℕ → ℕ → ℕ → ℕ → ℕ → Type 0
+IsOtherFault status room_before room_now out_before out_now = IsFaultOf 5 status room_before room_now out_before out_now
 
 -- a sink got a text: the whole text where no call failed, and else a front of it
 pub record IsPut (old new text : List ℕ) (before now : ℕ) : Type 0 where
@@ -75,6 +120,24 @@ ShowsRefusal fail status old new before now =
     ((status ≡ status_of fail) × IsPut old new (refusal_line fail) before now)
     ⊎ ((status ≡ status_of Memory) × IsPut old new (refusal_line Memory) before now)
 
+-- The refusal of a file that was read was shown: its line was put on standard error with status 3, or want of memory was told.
+abbrev pub ShowsRead : List ℕ → FileFail → ℕ → List ℕ → List ℕ → ℕ → ℕ → Type 0
+ShowsRead path fail status old new before now =
+    ((status ≡ 3) × IsPut old new (file_line path fail) before now)
+    ⊎ ((status ≡ status_of Memory) × IsPut old new (refusal_line Memory) before now)
+
+-- A refusal of a file was shown. That it can't be read is always told as such, with status 5.
+abbrev pub ShowsFile : List ℕ → FileFail → ℕ → List ℕ → List ℕ → ℕ → ℕ → Type 0
+ShowsFile path file.Failed status old new before now = (status ≡ 5) × IsPut old new (file_line path file.Failed) before now
+ShowsFile path file.Memory status old new before now = (status ≡ status_of Memory) × IsPut old new (refusal_line Memory) before now
+ShowsFile path fail status old new before now = ShowsRead path fail status old new before now
+
 -- the status is the answer's, or 5 in place of 0 where the output could not be put
 abbrev pub IsStatus : ℕ → ℕ → Type 0
 IsStatus due status = (status ≡ due) ⊎ ((due ≡ 0) × (status ≡ 5))
+
+-- a plan was answered: what was put on standard error is the answer's, whose status it is, and it has no output
+abbrev pub Ends : Answer → Option Answer → ℕ → ℕ → ℕ → ℕ → ℕ → ℕ → ℕ → List ℕ → List ℕ → ℕ → ℕ → Type 0
+Ends due unread git_before git_now gpgv_before gpgv_now room_before room_now status err_before err_now count_before count_now =
+    (answer : Answer) × MayEnd due unread git_before git_now gpgv_before gpgv_now room_before room_now answer
+    × (answer.status ≡ status) × (answer.out ≡ []) × IsPut err_before err_now answer.err count_before count_now

@@ -6,14 +6,15 @@
 
 mod children;
 mod help;
+mod historical;
 mod running;
 mod showing;
 #[cfg(test)]
 mod tests;
 mod words;
 
-use child_ports::{MemKeeper, MemRoom, Numbers, Pairs, Text, Words};
-use children::{ChildGit, ChildSig, StdSink, program_named, store_root};
+use child_ports::{MemKeeper, Numbers, Pairs, Text, Words};
+use children::{ChildGit, ChildSig, RealRoom, StdSink, program_named, store_root};
 use std::io::ErrorKind;
 use std::process::ExitCode;
 use std::{env, io};
@@ -49,7 +50,7 @@ fn run_program(rt: HostRuntime) -> io::Result<u8> {
         &mut ChildGit::new(rt, git.as_str())?,
         &mut ChildSig::new(rt, gpgv.as_str(), root.as_str())?,
         &mut MemKeeper::new(alloc, &none, Numbers::new(alloc))?,
-        &mut MemRoom::new(alloc, &none, Numbers::new(alloc))?,
+        &mut RealRoom::new(rt),
         &mut StdSink::new(rt.stdout()),
         &mut StdSink::new(rt.stderr()),
     ))

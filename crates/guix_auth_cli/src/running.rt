@@ -1,16 +1,19 @@
 //! The top call.
-ghost use Rattle.std.specs.Prelude.{◌≡◌, ◌≢◌, [], ℕ, nat_eq, IsTrue, IfOk, MatchOption};
+ghost use Rattle.std.specs.Prelude.{◌≡◌, ◌≢◌, [], ℕ, Some, nat_eq, option_map, IsTrue, IfOk, MatchOption};
 ghost use Rattle.std.specs.List.{AllByRecursion};
 ghost use Rattle.child_ports.specs.Causes.{RoseWhen};
 ghost use Rattle.child_ports.specs.Git.{IsName};
 ghost use Rattle.auth_engine.specs.Outcome.{outcome};
 ghost use Rattle.guix_auth_cli.specs.Words.{command_of};
-ghost use Rattle.guix_auth_cli.specs.Run.{Answer, task_for, answer_for, answer_of, MayAnswer, IsChildFault, IsPut, IsStatus};
+ghost use Rattle.guix_auth_cli.specs.Historical.{keys_at};
+ghost use Rattle.guix_auth_cli.specs.Run.{Answer, Ends, task_for, answer_for, after_file, answer_by, answer_of, file_unread, unread_by, MayAnswer, MayEnd, IsChildFault, IsOtherFault, IsPut, IsStatus};
 
 use crate::help::HELP;
-use crate::showing::{tell, tell_refusal};
+use crate::historical::read_historical;
+use crate::showing::{OUT_OF_MEMORY, tell, tell_file, tell_refusal};
 use crate::words::{Command, Plan, read_words};
 use auth_engine::{EngineFail, Task, authenticate};
+use auth_report::{FileFail, file_refusal};
 use child_ports::{Bytes, FileRoom, GitPort, Keeper, Names, SigPort, Sink, Text, Words};
 use std::alloc::{AllocError, Global};
 
@@ -33,8 +36,8 @@ fn make_task(alloc: Global, plan: &Plan) -> Result<Task, AllocError>
     })
 }
 
-// Authenticates by a plan.
-fn run_plan<G: GitPort, V: SigPort, E: Sink>(
+// Authenticates by a plan, whose file has been read.
+fn run_task<G: GitPort, V: SigPort, E: Sink>(
     alloc: Global,
     plan: &Plan,
     git: &mut G,
@@ -48,7 +51,7 @@ fn run_plan<G: GitPort, V: SigPort, E: Sink>(
         × IsPut (E.taken err.old) (E.taken err.new) answer.err (E.faults err.old) (E.faults err.new) }
     ensures child_fault { IsChildFault result (G.faults git.old) (G.faults git.new) (V.faults gpgv.old) (V.faults gpgv.new) }
     ensures no_words { result ≢ 2 }
-    ensures no_sink { result ≢ 5 }
+    ensures no_other { result ≢ 5 }
     ensures git_told { G.tells git.new ≡ G.tells git.old }
     ensures git_table { G.table git.new ≡ G.table git.old }
     ensures gpgv_told { V.tells gpgv.new ≡ V.tells gpgv.old }
@@ -61,6 +64,71 @@ fn run_plan<G: GitPort, V: SigPort, E: Sink>(
     match authenticate(alloc, git, gpgv, &task) {
         Ok(_) => 0,
         Err(fail) => tell_refusal(alloc, err, &fail),
+    }
+}
+
+// Reads the file that a plan names, and authenticates by the plan. The line for a file that can't be read is made before
+// the room is called, so that its failure is always told with its own status.
+fn run_naming<G: GitPort, V: SigPort, R: FileRoom, E: Sink>(
+    alloc: Global,
+    plan: &Plan,
+    path: &str,
+    git: &mut G,
+    gpgv: &mut V,
+    room: &mut R,
+    err: &mut E,
+) -> u8
+    ensures answer { IsTrue (G.tells git.old) → IsTrue (V.tells gpgv.old) → IsTrue (R.tells room.old) → IsTrue (E.tells err.old) →
+        Ends (after_file (G.table git.old) (V.table gpgv.old) plan.now path.now (keys_at (R.files room.old) path.now)) (Some (file_unread path.now))
+        (G.faults git.old) (G.faults git.new) (V.faults gpgv.old) (V.faults gpgv.new) (R.faults room.old) (R.faults room.new)
+        result (E.taken err.old) (E.taken err.new) (E.faults err.old) (E.faults err.new) }
+    ensures child_fault { IsChildFault result (G.faults git.old) (G.faults git.new) (V.faults gpgv.old) (V.faults gpgv.new) }
+    ensures room_fault { RoseWhen (nat_eq result 5) (R.faults room.old) (R.faults room.new) }
+    ensures no_words { result ≢ 2 }
+    ensures git_told { G.tells git.new ≡ G.tells git.old }
+    ensures git_table { G.table git.new ≡ G.table git.old }
+    ensures gpgv_told { V.tells gpgv.new ≡ V.tells gpgv.old }
+    ensures gpgv_table { V.table gpgv.new ≡ V.table gpgv.old }
+    ensures room_told { R.tells room.new ≡ R.tells room.old }
+    ensures files { R.files room.new ≡ R.files room.old }
+    ensures err_told { E.tells err.new ≡ E.tells err.old }
+{
+    let Ok(unread) = file_refusal(alloc, path, &FileFail::Failed) else {
+        return tell(err, OUT_OF_MEMORY, 6);
+    };
+    match read_historical(alloc, room, path) {
+        Ok(_) => run_task(alloc, plan, git, gpgv, err),
+        Err(fail) => tell_file(alloc, err, path, unread.as_slice(), &fail),
+    }
+}
+
+// Authenticates by a plan.
+fn run_plan<G: GitPort, V: SigPort, R: FileRoom, E: Sink>(
+    alloc: Global,
+    plan: &Plan,
+    git: &mut G,
+    gpgv: &mut V,
+    room: &mut R,
+    err: &mut E,
+) -> u8
+    ensures answer { IsTrue (G.tells git.old) → IsTrue (V.tells gpgv.old) → IsTrue (R.tells room.old) → IsTrue (E.tells err.old) →
+        Ends (answer_by (G.table git.old) (V.table gpgv.old) (R.files room.old) plan.now) (option_map file_unread plan.now.historical)
+        (G.faults git.old) (G.faults git.new) (V.faults gpgv.old) (V.faults gpgv.new) (R.faults room.old) (R.faults room.new)
+        result (E.taken err.old) (E.taken err.new) (E.faults err.old) (E.faults err.new) }
+    ensures child_fault { IsChildFault result (G.faults git.old) (G.faults git.new) (V.faults gpgv.old) (V.faults gpgv.new) }
+    ensures room_fault { RoseWhen (nat_eq result 5) (R.faults room.old) (R.faults room.new) }
+    ensures no_words { result ≢ 2 }
+    ensures git_told { G.tells git.new ≡ G.tells git.old }
+    ensures git_table { G.table git.new ≡ G.table git.old }
+    ensures gpgv_told { V.tells gpgv.new ≡ V.tells gpgv.old }
+    ensures gpgv_table { V.table gpgv.new ≡ V.table gpgv.old }
+    ensures room_told { R.tells room.new ≡ R.tells room.old }
+    ensures files { R.files room.new ≡ R.files room.old }
+    ensures err_told { E.tells err.new ≡ E.tells err.old }
+{
+    match &plan.historical {
+        Some(path) => run_naming(alloc, plan, path.as_str(), git, gpgv, room, err),
+        None => run_task(alloc, plan, git, gpgv, err),
     }
 }
 
@@ -94,14 +162,14 @@ pub fn run<G: GitPort, V: SigPort, K: Keeper, R: FileRoom, O: Sink, E: Sink>(
     // 4: exactly where a call of git's or gpgv's port failed.
     ensures child_fault { IsChildFault result (G.faults git.old) (G.faults git.new) (V.faults gpgv.old) (V.faults gpgv.new) }
 
-    // 5: exactly where standard output could not be put.
-    ensures sink_fault { RoseWhen (nat_eq result 5) (O.faults out.old) (O.faults out.new) }
+    // 5: exactly where a file of the words could not be read, or standard output could not be put.
+    ensures other_fault { IsOtherFault result (R.faults room.old) (R.faults room.new) (O.faults out.old) (O.faults out.new) }
 
-    // Status and texts are those of the answer to the words over git's answers and gpgv's verdicts, unless a child's
-    // call failed or memory is wanting.
-    ensures answer { IsTrue (G.tells git.old) → IsTrue (V.tells gpgv.old) → IsTrue (O.tells out.old) → IsTrue (E.tells err.old) →
-        (answer : Answer) × MayAnswer (answer_of (G.table git.old) (V.table gpgv.old) words.now)
-        (G.faults git.old) (G.faults git.new) (V.faults gpgv.old) (V.faults gpgv.new) answer
+    // Status and texts are those of the answer to the words over git's answers, gpgv's verdicts and the files, unless a
+    // child's call or one of the room failed, or memory is wanting.
+    ensures answer { IsTrue (G.tells git.old) → IsTrue (V.tells gpgv.old) → IsTrue (R.tells room.old) → IsTrue (O.tells out.old) → IsTrue (E.tells err.old) →
+        (answer : Answer) × MayEnd (answer_of (G.table git.old) (V.table gpgv.old) (R.files room.old) words.now) (unread_by (command_of words.now))
+        (G.faults git.old) (G.faults git.new) (V.faults gpgv.old) (V.faults gpgv.new) (R.faults room.old) (R.faults room.new) answer
         × IsStatus answer.status result
         × IsPut (O.taken out.old) (O.taken out.new) answer.out (O.faults out.old) (O.faults out.new)
         × IsPut (E.taken err.old) (E.taken err.new) answer.err (E.faults err.old) (E.faults err.new) }
@@ -112,7 +180,6 @@ pub fn run<G: GitPort, V: SigPort, K: Keeper, R: FileRoom, O: Sink, E: Sink>(
     ensures keeper_faults { K.faults keeper.new ≡ K.faults keeper.old }
     ensures room_told { R.tells room.new ≡ R.tells room.old }
     ensures files { R.files room.new ≡ R.files room.old }
-    ensures room_faults { R.faults room.new ≡ R.faults room.old }
 
     ensures git_told { G.tells git.new ≡ G.tells git.old }
     ensures git_table { G.table git.new ≡ G.table git.old }
@@ -121,9 +188,10 @@ pub fn run<G: GitPort, V: SigPort, K: Keeper, R: FileRoom, O: Sink, E: Sink>(
     ensures out_told { O.tells out.new ≡ O.tells out.old }
     ensures err_told { E.tells err.new ≡ E.tells err.old }
 {
-    match read_words(words) {
-        Some(Command::Authenticate(plan)) => run_plan(alloc, &plan, git, gpgv, err),
-        Some(Command::Help) => print_help(out),
-        None => tell(err, BAD_WORDS, 2),
+    match read_words(alloc, words) {
+        Ok(Some(Command::Authenticate(plan))) => run_plan(alloc, &plan, git, gpgv, room, err),
+        Ok(Some(Command::Help)) => print_help(out),
+        Ok(None) => tell(err, BAD_WORDS, 2),
+        Err(_) => tell(err, OUT_OF_MEMORY, 6),
     }
 }

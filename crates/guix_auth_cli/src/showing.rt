@@ -1,9 +1,11 @@
 //! Texts put into sinks.
-ghost use Rattle.std.specs.Prelude.{◌≡◌, ◌≢◌, nat_eq, IsTrue};
-ghost use Rattle.guix_auth_cli.specs.Run.{status_of, ShowsRefusal, IsPut};
+ghost use Rattle.std.specs.Prelude.{◌≡◌, ◌≢◌, nat_eq, false, IsTrue};
+ghost use Rattle.auth_report.specs.FileTexts.{file_line};
+ghost use Rattle.guix_auth_cli.specs.Historical.{is_unread};
+ghost use Rattle.guix_auth_cli.specs.Run.{status_of, ShowsRefusal, ShowsRead, ShowsFile, IsPut};
 
 use auth_engine::EngineFail;
-use auth_report::refusal;
+use auth_report::{FileFail, file_refusal, refusal};
 use child_ports::Sink;
 use std::alloc::Global;
 
@@ -11,7 +13,8 @@ const GIT_FAILED: &[u8] = b"guix-auth: git failed\n";
 
 const GPGV_FAILED: &[u8] = b"guix-auth: gpgv failed\n";
 
-const OUT_OF_MEMORY: &[u8] = b"guix-auth: out of memory\n";
+/// The line for want of memory.
+pub const OUT_OF_MEMORY: &[u8] = b"guix-auth: out of memory\n";
 
 /// Puts a line on standard error, and gives the status. Where the line can't be put the status stays.
 pub fn tell<E: Sink>(err: &mut E, line: &[u8], status: u8) -> u8
@@ -53,5 +56,42 @@ pub fn tell_refusal<E: Sink>(alloc: Global, err: &mut E, fail: &EngineFail) -> u
             Ok(line) => tell(err, line.as_slice(), own_status(fail)),
             Err(_) => tell(err, OUT_OF_MEMORY, 6),
         },
+    }
+}
+
+// Puts the line of a file that was read and gives no keys on standard error.
+fn tell_read<E: Sink>(alloc: Global, err: &mut E, path: &str, fail: &FileFail) -> u8
+    ensures told { E.tells err.new ≡ E.tells err.old }
+    ensures shown { IsTrue (E.tells err.old) → ShowsRead path.now fail.now result (E.taken err.old) (E.taken err.new) (E.faults err.old) (E.faults err.new) }
+    ensures no_words { result ≢ 2 }
+    ensures no_child { nat_eq result 4 ≡ false }
+    ensures no_other { nat_eq result 5 ≡ false }
+{
+    match file_refusal(alloc, path, fail) {
+        Ok(line) => tell(err, line.as_slice(), 3),
+        Err(_) => tell(err, OUT_OF_MEMORY, 6),
+    }
+}
+
+/// Puts the line of a file that gives no keys on standard error, and gives its status. The line for a file that can't be
+/// read is given, so that its status needs no memory.
+pub fn tell_file<E: Sink>(
+    alloc: Global,
+    err: &mut E,
+    path: &str,
+    unread: &[u8],
+    fail: &FileFail,
+) -> u8
+    requires line { unread.now ≡ file_line path.now FileFail.Failed }
+    ensures told { E.tells err.new ≡ E.tells err.old }
+    ensures shown { IsTrue (E.tells err.old) → ShowsFile path.now fail.now result (E.taken err.old) (E.taken err.new) (E.faults err.old) (E.faults err.new) }
+    ensures no_words { result ≢ 2 }
+    ensures no_child { nat_eq result 4 ≡ false }
+    ensures fault { nat_eq result 5 ≡ is_unread fail.now }
+{
+    match fail {
+        FileFail::Failed => tell(err, unread, 5),
+        FileFail::Memory => tell(err, OUT_OF_MEMORY, 6),
+        fail => tell_read(alloc, err, path, fail),
     }
 }

@@ -1,11 +1,13 @@
 //! Runs of the words over git and gpgv in memory.
-use crate::children::{ChildGit, ChildSig};
+use crate::children::{ChildGit, ChildSig, RealRoom};
 use crate::running::run;
 use child_ports::{
     Bytes, FileRoom, GitPort, GitRow, GitRows, MemGit, MemKeeper, MemRoom, MemSig, MemSink,
-    Numbers, Pairs, SigPort, SigRow, SigRows, Sink, Text, Words, rows_fit,
+    Numbers, Pair, Pairs, SigPort, SigRow, SigRows, Sink, Text, Words, rows_fit,
 };
 use std::alloc::{AllocError, Global};
+use std::fs;
+use std::io::Write;
 use std::process::Abort;
 use std::test::Fail;
 
@@ -89,11 +91,11 @@ fn sig_rows(alloc: Global, verdict: bool) -> Result<SigRows, AllocError> {
     Ok(rows)
 }
 
-fn words_of(alloc: Global, signer: &str) -> Result<Words, AllocError> {
+fn words_of(alloc: Global, from: &[&str]) -> Result<Words, AllocError> {
     let mut words = Words::new(alloc);
-    words.push(text_of(alloc, "authenticate")?)?;
-    words.push(text_of(alloc, ID)?)?;
-    words.push(text_of(alloc, signer)?)?;
+    for word in from {
+        words.push(text_of(alloc, word)?)?;
+    }
     Ok(words)
 }
 
@@ -108,30 +110,41 @@ fn git_of(rt: &impl Abort, alloc: Global, given: &Given) -> Result<MemGit, Alloc
     MemGit::new(alloc, rows, fails, Numbers::new(alloc))
 }
 
-// The status of a run with an empty keeper and no files, and what it puts on standard error.
-fn run_over<G: GitPort, V: SigPort>(
+// The status of a run with an empty keeper, and what it puts on standard error.
+fn run_words<G: GitPort, V: SigPort, R: FileRoom>(
     alloc: Global,
-    signer: &str,
+    words: &[&str],
     git: &mut G,
     gpgv: &mut V,
+    room: &mut R,
 ) -> Result<(u8, MemSink), AllocError> {
     let none = Pairs::new(alloc);
     let mut keeper = MemKeeper::new(alloc, &none, Numbers::new(alloc))?;
-    let mut room = MemRoom::new(alloc, &none, Numbers::new(alloc))?;
-    let mut out = MemSink::new(alloc, 0, Numbers::new(alloc))?;
+    let mut out = MemSink::new(alloc, 4096, Numbers::new(alloc))?;
     let mut err = MemSink::new(alloc, 4096, Numbers::new(alloc))?;
-    let words = words_of(alloc, signer)?;
+    let words = words_of(alloc, words)?;
     let status = run(
         alloc,
         &words,
         git,
         gpgv,
         &mut keeper,
-        &mut room,
+        room,
         &mut out,
         &mut err,
     );
     Ok((status, err))
+}
+
+// The same of a run without files.
+fn run_over<G: GitPort, V: SigPort>(
+    alloc: Global,
+    signer: &str,
+    git: &mut G,
+    gpgv: &mut V,
+) -> Result<(u8, MemSink), AllocError> {
+    let mut room = MemRoom::new(alloc, &Pairs::new(alloc), Numbers::new(alloc))?;
+    run_words(alloc, &["authenticate", ID, signer], git, gpgv, &mut room)
 }
 
 fn check(rt: &impl Abort, alloc: Global, given: &Given, want: &Want) -> Result<(), AllocError> {
@@ -257,5 +270,179 @@ fn git_that_ends_at_once_has_failed(rt: HostRuntime) -> Result<(), Fail> {
     let (status, err) = run_over(alloc, SIGNER, &mut git, &mut gpgv)?;
     assert_eq!(rt; status, 4);
     assert_eq!(rt; err.taken(), b"guix-auth: git failed\n".as_slice());
+    Ok(())
+}
+
+// A room with the file `h`, which fails at the call of this number, or never for 0.
+fn room_of(alloc: Global, file: &[u8], failing: u64) -> Result<MemRoom, AllocError> {
+    let mut files = Pairs::new(alloc);
+    files.push(Pair {
+        key: text_of(alloc, "h")?,
+        value: Bytes::from_slice(alloc, file)?,
+    })?;
+    let mut fails = Numbers::new(alloc);
+    if failing > 0 {
+        fails.push(failing)?;
+    }
+    MemRoom::new(alloc, &files, fails)
+}
+
+// Runs the words over a history that is accepted and this room.
+fn check_words(
+    rt: &impl Abort,
+    alloc: Global,
+    words: &[&str],
+    room: &mut MemRoom,
+    want: &Want,
+) -> Result<(), AllocError> {
+    let given = Given {
+        signer: SIGNER,
+        commit: true,
+        verdict: true,
+        failing: 0,
+    };
+    let mut git = git_of(rt, alloc, &given)?;
+    let mut gpgv = MemSig::new(alloc, sig_rows(alloc, true)?, Numbers::new(alloc))?;
+    let (status, err) = run_words(alloc, words, &mut git, &mut gpgv, room)?;
+    assert_eq!(rt; status, want.status, "at {words:?}");
+    assert_eq!(rt; gpgv.asked(), want.asked, "at {words:?}");
+    assert_eq!(rt; err.taken(), want.line.as_bytes(), "at {words:?}");
+    Ok(())
+}
+
+// Runs with the file `h` of historical keys.
+fn check_file(
+    rt: &impl Abort,
+    alloc: Global,
+    file: &[u8],
+    failing: u64,
+    want: &Want,
+) -> Result<(), AllocError> {
+    let words = ["authenticate", ID, SIGNER, "--historical-authorizations=h"];
+    check_words(rt, alloc, &words, &mut room_of(alloc, file, failing)?, want)
+}
+
+fn refused(status: u8, line: &'static str) -> Want {
+    Want {
+        status,
+        asked: 0,
+        line,
+    }
+}
+
+#[test]
+fn a_file_of_historical_keys_is_read_before_the_target(rt: HostRuntime) -> Result<(), Fail> {
+    let accepted = Want {
+        status: 0,
+        asked: 1,
+        line: "",
+    };
+    check_file(
+        &rt,
+        rt.alloc(),
+        b"(authorizations (version 0) ())",
+        0,
+        &accepted,
+    )?;
+    for (file, failing, status, line) in [
+        (
+            b"(authorizations (version 1) ())".as_slice(),
+            0,
+            3,
+            "guix-auth: file h: authorizations version 1 is not supported\n",
+        ),
+        (
+            b"(authorizations (version 0) ((\"A0A0\" (name \"x\"))))".as_slice(),
+            0,
+            3,
+            "guix-auth: file h: entry 0 has no valid fingerprint\n",
+        ),
+        (
+            b"(a".as_slice(),
+            0,
+            3,
+            "guix-auth: file h: unfinished at byte 2\n",
+        ),
+        (
+            b"(authorizations (version 0) ())".as_slice(),
+            1,
+            5,
+            "guix-auth: file h cannot be read\n",
+        ),
+    ] {
+        check_file(&rt, rt.alloc(), file, failing, &refused(status, line))?;
+    }
+    Ok(())
+}
+
+#[test]
+fn a_file_of_more_than_a_mebibyte_is_too_long(rt: HostRuntime) -> Result<(), Fail> {
+    let mut file = Bytes::from_slice(rt.alloc(), b"(authorizations (version 0) ())")?;
+    for _ in file.len()..1_048_576 {
+        file.push(b' ')?;
+    }
+    let accepted = Want {
+        status: 0,
+        asked: 1,
+        line: "",
+    };
+    check_file(&rt, rt.alloc(), file.as_slice(), 0, &accepted)?;
+    file.push(b' ')?;
+    let want = refused(3, "guix-auth: file h is longer than 1048576 bytes\n");
+    check_file(&rt, rt.alloc(), file.as_slice(), 0, &want)?;
+    Ok(())
+}
+
+#[test]
+fn the_option_stands_at_any_place_and_once(rt: HostRuntime) -> Result<(), Fail> {
+    let option = "--historical-authorizations=g";
+    let missing = "guix-auth: file g is missing\n";
+    let bad = "guix-auth: bad words; see guix-auth --help\n";
+    let rows: [(&[&str], u8, &'static str); 9] = [
+        (&["authenticate", option, ID, SIGNER], 3, missing),
+        (&["authenticate", ID, option, SIGNER], 3, missing),
+        (&["authenticate", ID, SIGNER, option], 3, missing),
+        (&[option, "authenticate", ID, SIGNER], 2, bad),
+        (&["authenticate", ID, option, SIGNER, option], 2, bad),
+        (&["authenticate", ID, option, option], 2, bad),
+        (
+            &["authenticate", ID, SIGNER, "--historical-authorizations="],
+            2,
+            bad,
+        ),
+        (
+            &["authenticate", ID, SIGNER, "--historical-authorizations"],
+            2,
+            bad,
+        ),
+        (&["--help", "--help"], 2, bad),
+    ];
+    for (words, status, line) in rows {
+        let mut room = room_of(rt.alloc(), b"", 0)?;
+        check_words(&rt, rt.alloc(), words, &mut room, &refused(status, line))?;
+    }
+    Ok(())
+}
+
+#[test]
+fn the_files_of_the_system_give_their_bytes_or_none(rt: HostRuntime) -> Result<(), Fail> {
+    let mut file = fs::create(&rt, "keys")?;
+    file.write_all(b"(authorizations (version 0) ())")?;
+    drop(file);
+    let mut room = RealRoom::new(rt);
+    let read = room
+        .read(rt.alloc(), "keys")
+        .map_err(|_| "the read failed")?;
+    let Some(bytes) = read else {
+        panic!(&rt; "the file is there");
+    };
+    assert_eq!(rt;
+        bytes.as_slice(),
+        b"(authorizations (version 0) ())".as_slice()
+    );
+    let absent = room
+        .read(rt.alloc(), "no-keys")
+        .map_err(|_| "the read failed")?;
+    assert!(rt; absent.is_none(), "nothing is there");
     Ok(())
 }

@@ -1,7 +1,7 @@
 //! A child `gpgv`, started for each question.
 ghost use Rattle.std.specs.Prelude.{◌≡◌, [], false};
-ghost use Rattle.child_ports.specs.Causes.{PortFailsByCount};
 
+use crate::children::counting::counted;
 use crate::children::running_child::RunningChild;
 use child_ports::{Bytes, PortFail, SigPort};
 use std::alloc::{AllocError, Global};
@@ -112,20 +112,6 @@ fn question<R: Processes + Files + Env + AllocGlobal>(
         return Err(io::Error::from(ErrorKind::FileTooLarge));
     }
     Ok(answer)
-}
-
-// An answer of the system as one of a port: any error but want of memory is a failed call.
-fn counted<T: Drop>(answer: io::Result<T>, faults: &mut u64) -> Result<T, PortFail>
-    ensures { PortFailsByCount faults.old faults.new result }
-{
-    match answer {
-        Ok(value) => Ok(value),
-        Err(e) if e.kind() == ErrorKind::OutOfMemory => Err(PortFail::Memory),
-        Err(_) => {
-            *faults = faults.saturating_add(1);
-            Err(PortFail::Failed)
-        }
-    }
 }
 
 impl<R: Processes + Files<File = File> + Env + AllocGlobal + Drop> SigPort for ChildSig<R> {

@@ -4,7 +4,7 @@ use Rattle.auth_engine.specs.declared.task.Verdict.{Verdict}
 use Rattle.auth_engine.specs.Answers.{Gives}
 use Rattle.auth_engine.specs.Outcome.{outcome}
 use Rattle.guix_auth_cli.proofs.RunLemmas.{accepted, out_of_memory, was_refused}
-use Rattle.guix_auth_cli.proofs.running.run_plan.Goals as goal
+use Rattle.guix_auth_cli.proofs.running.run_task.Goals as goal
 
 pub returns-in_default-clause-answer : goal.returns-in_default-clause-answer
 returns-in_default-clause-answer g c = λ git gpgv err. out_of_memory _ _ _ _ _ _ _ _ _ _ (c.tell_refusal.ensures.shown err)
