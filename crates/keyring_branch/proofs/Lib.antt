@@ -1,0 +1,13 @@
+pub mod ArmourLemmas
+pub mod BlockLemmas
+pub mod BranchLemmas
+pub mod FaultLemmas
+pub mod FileLemmas
+pub mod GrammarLemmas
+pub mod LengthLemmas
+pub mod LineLemmas
+pub mod NumberLemmas
+pub mod PacketLemmas
+pub mod RunLemmas
+pub mod TextLemmas
+pub mod UnionLemmas

@@ -1,0 +1,15 @@
+pub mod Armour
+pub mod ArmourFaults
+pub mod ArmourReading
+pub mod Fail
+pub mod FrontPacket
+pub mod Inside
+pub mod KeyFile
+pub mod Keyring
+pub mod KeyringFaults
+pub mod KeyringReading
+pub mod Lines
+pub mod PacketFaults
+pub mod PacketReading
+pub mod Packets
+pub mod PortFails
