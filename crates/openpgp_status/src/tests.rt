@@ -87,8 +87,16 @@ fn gpgv_is_read_as_it_writes(rt: HostRuntime) -> Result<(), Fail> {
         (GOOD, "9F461C62BB3DADBE2B448B6FB5CDB1B9EF9B390C", 8),
         (EXPIRED_KEY, "CF265545625A6E8F1FCA8DC1C686B5ACFFB189C2", 8),
         (REVOKED_KEY, "D1884EA1CC2095D2715359EF1FA6D6A8D009F54D", 8),
-        (SIGNING_SUBKEY, "047210AF431A694D636B0DB975497E213D0D2253", 8),
-        (SHA1_SIGNATURE, "59434630592EFF99B347BF490023616F0C24E1E4", 2),
+        (
+            SIGNING_SUBKEY,
+            "047210AF431A694D636B0DB975497E213D0D2253",
+            8,
+        ),
+        (
+            SHA1_SIGNATURE,
+            "59434630592EFF99B347BF490023616F0C24E1E4",
+            2,
+        ),
     ] {
         let want = valid(&rt, key, hash);
         assert_eq!(rt; judge(status.as_bytes()), want, "at {status}");

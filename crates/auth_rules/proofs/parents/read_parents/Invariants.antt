@@ -1,0 +1,17 @@
+use Rattle.std.proofs.Common.{◌≡◌, ◌++◌, drop, Ok}
+use Rattle.std.specs.Prelude.{IsTrue}
+use Rattle.commit_graph.specs.Walk.{parents_in}
+use Rattle.auth_rules.specs.World.{onward}
+use Rattle.auth_rules.specs.Consulting.{git_world, parents_read}
+use Rattle.auth_rules.proofs.parents.read_parents.Given as goal
+
+abbrev pub invariant-loop-id : goal.invariant-loop-id
+invariant-loop-id g l = record {
+  told : g.G.GitPort.tells l.git ≡ g.G.GitPort.tells l.fn.git;
+  table : g.G.GitPort.table l.git ≡ g.G.GitPort.table l.fn.git;
+  faults : g.G.GitPort.faults l.git ≡ g.G.GitPort.faults l.fn.git;
+  so_far : IsTrue (g.G.GitPort.tells l.fn.git) →
+      let w = git_world (g.G.GitPort.table l.fn.git) l.dir in
+      let up = parents_in l.graph.held in
+      parents_read w up l.ids ≡ onward (parents_read w up (drop l.id-index l.ids)) (λ rest. Ok (l.parents ++ rest));
+}

@@ -1,0 +1,4 @@
+pub mod World
+pub mod Rules
+pub mod Answers
+pub mod Consulting
