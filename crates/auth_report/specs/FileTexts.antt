@@ -6,14 +6,7 @@ use Rattle.authorizations.specs.declared.fail.AuthFail.{AuthFail}
 use Rattle.authorizations.specs.declared.fail.AuthFail.TheVariants as auth
 use Rattle.auth_report.specs.declared.files.FileFail.{FileFail}
 use Rattle.auth_report.specs.declared.files.FileFail.TheVariants as file
-use Rattle.auth_report.specs.Texts.{line_of, out_of_memory}
-
--- a byte of a name as it is printed: a question mark for one below 32 and for 127
-abbrev pub shown_byte : ℕ → ℕ
-shown_byte b = if nat_lt b 32 || nat_eq b 127 then 63 else b
-
-abbrev pub shown : List ℕ → List ℕ
-shown name = map shown_byte name
+use Rattle.auth_report.specs.Parts.{line_of, out_of_memory, shown}
 
 -- why bytes have no first datum
 abbrev pub sexp_text : SexpFail → List ℕ

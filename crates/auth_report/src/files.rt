@@ -1,8 +1,8 @@
 //! Why a file that words name gives no keys, as a line.
-ghost use Rattle.std.specs.Prelude.{◌≡◌, ◌++◌, OnOk, IfOk, decimal, map};
-ghost use Rattle.auth_report.specs.FileTexts.{shown_byte, shown, sexp_text, auth_text, trouble_text, file_line};
+ghost use Rattle.std.specs.Prelude.{◌≡◌, ◌++◌, OnOk, IfOk, decimal};
+ghost use Rattle.auth_report.specs.FileTexts.{sexp_text, auth_text, trouble_text, file_line};
 
-use crate::parts::push_number;
+use crate::parts::{push_name, push_number, push_place};
 use authorizations::AuthFail;
 use child_ports::Bytes;
 use sexp_reader::SexpFail;
@@ -21,14 +21,6 @@ pub enum FileFail {
     Failed,
     /// Memory is wanting.
     Memory,
-}
-
-// Adds what stands at a place.
-fn push_place(text: &mut Bytes, words: &[u8], place: u64) -> Result<(), AllocError>
-    ensures { OnOk result (text.new ≡ text.old ++ (words.now ++ decimal place)) }
-{
-    text.extend(words)?;
-    push_number(text, place)
 }
 
 // Adds a number between words.
@@ -87,23 +79,6 @@ fn push_trouble(text: &mut Bytes, fail: FileFail) -> Result<(), AllocError>
         FileFail::Failed => text.extend(b" cannot be read"),
         FileFail::Memory => text.extend(b": out of memory"),
     }
-}
-
-// The byte that a name's byte is shown as.
-fn show_byte(byte: u8) -> u8
-    ensures { result ≡ shown_byte byte }
-{
-    if byte < 32 || byte == 127 { b'?' } else { byte }
-}
-
-// Adds a name.
-fn push_name(text: &mut Bytes, name: &[u8]) -> Result<(), AllocError>
-    ensures { OnOk result (text.new ≡ text.old ++ shown name.now) }
-{
-    for byte in name {
-        text.push(show_byte(*byte))?;
-    }
-    Ok(())
 }
 
 /// The line on standard error for a file that gives no keys.

@@ -8,6 +8,7 @@ mod causes;
 mod files;
 mod parts;
 mod refusals;
+mod rings;
 mod whats;
 
 pub use files::{FileFail, file_refusal};

@@ -4,12 +4,14 @@ use Rattle.child_ports.specs.declared.git.GitRow.{GitRow}
 use Rattle.child_ports.specs.declared.sig.SigRow.{SigRow}
 use Rattle.child_ports.specs.Causes.{Rose, Stayed}
 use Rattle.child_ports.specs.Sink.{TakesFront}
-use Rattle.auth_engine.specs.declared.task.Task.{Task}
-use Rattle.auth_engine.specs.declared.task.Verdict.{Verdict}
-use Rattle.auth_engine.specs.declared.engine_fail.EngineFail.{EngineFail}
-use Rattle.auth_engine.specs.declared.engine_fail.EngineFail.TheVariants.{Name, NotIntroduction, Object, Intro, GitFault, SigFault, Memory}
-use Rattle.auth_engine.specs.Outcome.{outcome}
-use Rattle.auth_report.specs.Texts.{line_of, refusal_line}
+use Rattle.auth_target.specs.declared.task.Task.{Task}
+use Rattle.auth_target.specs.declared.task.Verdict.{Verdict}
+use Rattle.auth_target.specs.declared.engine_fail.EngineFail.{EngineFail}
+use Rattle.auth_target.specs.declared.engine_fail.EngineFail.TheVariants.{Name, Keyring, TooMany, Object, Cycle, Intro, Unrelated, Commit, GitFault, SigFault, Memory}
+use Rattle.auth_target.specs.Outcome.{IsOutcome}
+use Rattle.auth_report.specs.Parts.{line_of}
+use Rattle.auth_report.specs.Texts.{refusal_line}
+use Rattle.std.specs.FinSet as set
 use Rattle.guix_auth_cli.specs.declared.words.Plan.{Plan}
 use Rattle.guix_auth_cli.specs.declared.words.Command.{Command}
 use Rattle.guix_auth_cli.specs.declared.words.Command.TheVariants.{Help, Authenticate}
@@ -27,16 +29,28 @@ pub record Answer : Type 0 where
   pub out : List ℕ
   pub err : List ℕ
 
--- the task of a plan: the repository is the current directory, and the target is its HEAD
-abbrev pub task_for : Plan → Task
-task_for plan = record { dir = codes "."; target = codes "HEAD^{commit}" ∷ []; intro = plan.intro; signer = plan.signer }
+-- the task of a plan, with these historical keys: the repository is the current directory, the target is its HEAD, and the keys
+-- are on its branch `keyring`
+abbrev pub task_for : Plan → Keys → Task
+task_for plan historical = record {
+  dir = codes ".";
+  target = codes "HEAD^{commit}" ∷ [];
+  intro = plan.intro;
+  signer = plan.signer;
+  historical = historical;
+  keyring = codes "keyring^{tree}" ∷ codes "refs/remotes/origin/keyring^{tree}" ∷ [];
+}
 
--- 1: the introduction is refused. 3: the check stops before. 4: a child's fault. 6: want of memory.
+-- 1: the target isn't authentic. 3: the check stops before. 4: a child's fault. 6: want of memory.
 abbrev pub status_of : EngineFail → ℕ
 status_of (Name which what) = 3
-status_of (NotIntroduction target intro) = 3
+status_of (Keyring why) = 3
+status_of TooMany = 3
 status_of (Object id what) = 3
+status_of (Cycle id) = 3
 status_of (Intro id cause) = 1
+status_of (Unrelated target intro) = 1
+status_of (Commit id cause) = 1
 status_of GitFault = 4
 status_of SigFault = 4
 status_of Memory = 6
@@ -58,27 +72,31 @@ file_refused path fail = record { status = 3; out = []; err = file_line path fai
 abbrev pub file_unread : List ℕ → Answer
 file_unread path = record { status = 5; out = []; err = file_line path file.Failed }
 
--- the task of the plan is checked once its file has given keys
-abbrev pub after_file : List GitRow → List SigRow → Plan → List ℕ → Result Keys FileFail → Answer
-after_file rows sigs plan path (Ok keys) = answer_for (outcome rows sigs (task_for plan))
-after_file rows sigs plan path (Err fail) = file_refused path fail
+-- the answer to what the task comes to
+abbrev pub IsDue : List GitRow → List SigRow → Task → Answer → Type 0
+IsDue rows sigs task answer = (result : Result Verdict EngineFail) × IsOutcome rows sigs task result × (answer ≡ answer_for result)
 
-abbrev pub answer_naming : List GitRow → List SigRow → Kept → Plan → Option (List ℕ) → Answer
-answer_naming rows sigs files plan None = answer_for (outcome rows sigs (task_for plan))
-answer_naming rows sigs files plan (Some path) = after_file rows sigs plan path (keys_at files path)
+-- the task of the plan is checked once its file has given keys
+abbrev pub IsAfterFile : List GitRow → List SigRow → Plan → List ℕ → Result Keys FileFail → Answer → Type 0
+IsAfterFile rows sigs plan path (Ok keys) answer = IsDue rows sigs (task_for plan keys) answer
+IsAfterFile rows sigs plan path (Err fail) answer = answer ≡ file_refused path fail
+
+abbrev pub IsNaming : List GitRow → List SigRow → Kept → Plan → Option (List ℕ) → Answer → Type 0
+IsNaming rows sigs files plan None answer = IsDue rows sigs (task_for plan set.empty) answer
+IsNaming rows sigs files plan (Some path) answer = IsAfterFile rows sigs plan path (keys_at files path) answer
 
 -- the answer to a plan
-abbrev pub answer_by : List GitRow → List SigRow → Kept → Plan → Answer
-answer_by rows sigs files plan = answer_naming rows sigs files plan plan.historical
+abbrev pub IsAnswerBy : List GitRow → List SigRow → Kept → Plan → Answer → Type 0
+IsAnswerBy rows sigs files plan answer = IsNaming rows sigs files plan plan.historical answer
 
-abbrev pub answer_to : List GitRow → List SigRow → Kept → Option Command → Answer
-answer_to rows sigs files None = record { status = 2; out = []; err = line_of (codes "bad words; see guix-auth --help") }
-answer_to rows sigs files (Some Help) = record { status = 0; out = HELP.now; err = [] }
-answer_to rows sigs files (Some (Authenticate plan)) = answer_by rows sigs files plan
+abbrev pub IsAnswerTo : List GitRow → List SigRow → Kept → Option Command → Answer → Type 0
+IsAnswerTo rows sigs files None answer = answer ≡ record { status = 2; out = []; err = line_of (codes "bad words; see guix-auth --help") }
+IsAnswerTo rows sigs files (Some Help) answer = answer ≡ record { status = 0; out = HELP.now; err = [] }
+IsAnswerTo rows sigs files (Some (Authenticate plan)) answer = IsAnswerBy rows sigs files plan answer
 
 -- the answer to words, over git's answers, gpgv's verdicts and the files
-abbrev pub answer_of : List GitRow → List SigRow → Kept → List (List ℕ) → Answer
-answer_of rows sigs files words = answer_to rows sigs files (command_of words)
+abbrev pub IsAnswerOf : List GitRow → List SigRow → Kept → List (List ℕ) → Answer → Type 0
+IsAnswerOf rows sigs files words answer = IsAnswerTo rows sigs files (command_of words) answer
 
 -- the answer to a command where its file can't be read
 abbrev pub unread_by : Option Command → Option Answer
@@ -86,15 +104,15 @@ unread_by (Some (Authenticate plan)) = option_map file_unread plan.historical
 unread_by _ = None
 
 -- A child's fault is the answer only where a call on its port failed; want of memory may be the answer at any time.
-abbrev pub MayAnswer : Answer → ℕ → ℕ → ℕ → ℕ → Answer → Type 0
-MayAnswer due git_before git_now gpgv_before gpgv_now answer =
-    (answer ≡ due) ⊎ (answer ≡ refused Memory)
+abbrev pub MayAnswer : (Answer → Type 0) → ℕ → ℕ → ℕ → ℕ → Answer → Type 0
+MayAnswer IsIt git_before git_now gpgv_before gpgv_now answer =
+    IsIt answer ⊎ (answer ≡ refused Memory)
     ⊎ ((answer ≡ refused GitFault) × Rose git_before git_now) ⊎ ((answer ≡ refused SigFault) × Rose gpgv_before gpgv_now)
 
 -- The answer that a file can't be read comes only where a call of the room failed.
-abbrev pub MayEnd : Answer → Option Answer → ℕ → ℕ → ℕ → ℕ → ℕ → ℕ → Answer → Type 0
-MayEnd due unread git_before git_now gpgv_before gpgv_now room_before room_now answer =
-    MayAnswer due git_before git_now gpgv_before gpgv_now answer ⊎ ((unread ≡ Some answer) × Rose room_before room_now)
+abbrev pub MayEnd : (Answer → Type 0) → Option Answer → ℕ → ℕ → ℕ → ℕ → ℕ → ℕ → Answer → Type 0
+MayEnd IsIt unread git_before git_now gpgv_before gpgv_now room_before room_now answer =
+    MayAnswer IsIt git_before git_now gpgv_before gpgv_now answer ⊎ ((unread ≡ Some answer) × Rose room_before room_now)
 
 -- A status comes exactly where a call on one of two ports failed.
 abbrev pub IsFaultOf : ℕ → ℕ → ℕ → ℕ → ℕ → ℕ → Type 0
@@ -137,7 +155,7 @@ abbrev pub IsStatus : ℕ → ℕ → Type 0
 IsStatus due status = (status ≡ due) ⊎ ((due ≡ 0) × (status ≡ 5))
 
 -- a plan was answered: what was put on standard error is the answer's, whose status it is, and it has no output
-abbrev pub Ends : Answer → Option Answer → ℕ → ℕ → ℕ → ℕ → ℕ → ℕ → ℕ → List ℕ → List ℕ → ℕ → ℕ → Type 0
-Ends due unread git_before git_now gpgv_before gpgv_now room_before room_now status err_before err_now count_before count_now =
-    (answer : Answer) × MayEnd due unread git_before git_now gpgv_before gpgv_now room_before room_now answer
+abbrev pub Ends : (Answer → Type 0) → Option Answer → ℕ → ℕ → ℕ → ℕ → ℕ → ℕ → ℕ → List ℕ → List ℕ → ℕ → ℕ → Type 0
+Ends IsIt unread git_before git_now gpgv_before gpgv_now room_before room_now status err_before err_now count_before count_now =
+    (answer : Answer) × MayEnd IsIt unread git_before git_now gpgv_before gpgv_now room_before room_now answer
     × (answer.status ≡ status) × (answer.out ≡ []) × IsPut err_before err_now answer.err count_before count_now

@@ -1,38 +1,59 @@
 //! The top call.
-ghost use Rattle.std.specs.Prelude.{◌≡◌, ◌≢◌, [], ℕ, Some, nat_eq, option_map, IsTrue, IfOk, MatchOption};
+ghost use Rattle.std.specs.Prelude.{◌≡◌, ◌≢◌, [], ◌∷◌, ℕ, Some, nat_eq, option_map, IsTrue, IfOk, MatchOption};
 ghost use Rattle.std.specs.List.{AllByRecursion};
 ghost use Rattle.child_ports.specs.Causes.{RoseWhen};
 ghost use Rattle.child_ports.specs.Git.{IsName};
-ghost use Rattle.auth_engine.specs.Outcome.{outcome};
 ghost use Rattle.guix_auth_cli.specs.Words.{command_of};
 ghost use Rattle.guix_auth_cli.specs.Historical.{keys_at};
-ghost use Rattle.guix_auth_cli.specs.Run.{Answer, Ends, task_for, answer_for, after_file, answer_by, answer_of, file_unread, unread_by, MayAnswer, MayEnd, IsChildFault, IsOtherFault, IsPut, IsStatus};
+ghost use Rattle.guix_auth_cli.specs.Run.{Answer, Ends, IsDue, task_for, IsAfterFile, IsAnswerBy, IsAnswerOf, file_unread, unread_by, MayAnswer, MayEnd, IsChildFault, IsOtherFault, IsPut, IsStatus};
 
 use crate::help::HELP;
 use crate::historical::read_historical;
 use crate::showing::{OUT_OF_MEMORY, tell, tell_file, tell_refusal};
 use crate::words::{Command, Plan, read_words};
-use auth_engine::{EngineFail, Task, authenticate};
 use auth_report::{FileFail, file_refusal};
+use auth_target::{EngineFail, Task, authenticate};
+use authorizations::KeySet;
 use child_ports::{Bytes, FileRoom, GitPort, Keeper, Names, SigPort, Sink, Text, Words};
 use std::alloc::{AllocError, Global};
 
 const BAD_WORDS: &[u8] = b"guix-auth: bad words; see guix-auth --help\n";
 
-// The task of a plan: the HEAD of the current directory's repository.
-fn make_task(alloc: Global, plan: &Plan) -> Result<Task, AllocError>
-    ensures task { IfOk result (λ task. task ≡ task_for plan.now) }
-    ensures names { IfOk result (λ task. AllByRecursion IsName task.target) }
+// Names that git is asked for, one after another.
+fn names_of(alloc: Global, first: &[u8], second: &[u8]) -> Result<Names, AllocError>
+    requires first { IsName first.now }
+    requires second { IsName second.now }
+    ensures given { IfOk result (λ names. names ≡ first.now ∷ second.now ∷ []) }
+    ensures names { IfOk result (λ names. AllByRecursion IsName names) }
+{
+    let mut names = Names::new(alloc);
+    names.push(Bytes::from_slice(alloc, first)?)?;
+    names.push(Bytes::from_slice(alloc, second)?)?;
+    Ok(names)
+}
+
+// The task of a plan: the HEAD of the current directory's repository, and its branch of keys.
+fn make_task(alloc: Global, plan: &Plan, historical: KeySet) -> Result<Task, AllocError>
+    ensures task { IfOk result (λ task. task ≡ task_for plan.now historical) }
+    ensures target { IfOk result (λ task. AllByRecursion IsName task.target) }
+    ensures keyring { IfOk result (λ task. AllByRecursion IsName task.keyring) }
 {
     let mut dir = Text::new(alloc);
     dir.push(".")?;
     let mut target = Names::new(alloc);
     target.push(Bytes::from_slice(alloc, b"HEAD^{commit}")?)?;
+    let keyring = names_of(
+        alloc,
+        b"keyring^{tree}",
+        b"refs/remotes/origin/keyring^{tree}",
+    )?;
     Ok(Task {
         dir,
         target,
         intro: plan.intro,
         signer: plan.signer,
+        historical,
+        keyring,
     })
 }
 
@@ -40,12 +61,13 @@ fn make_task(alloc: Global, plan: &Plan) -> Result<Task, AllocError>
 fn run_task<G: GitPort, V: SigPort, E: Sink>(
     alloc: Global,
     plan: &Plan,
+    historical: KeySet,
     git: &mut G,
     gpgv: &mut V,
     err: &mut E,
 ) -> u8
     ensures answer { IsTrue (G.tells git.old) → IsTrue (V.tells gpgv.old) → IsTrue (E.tells err.old) →
-        (answer : Answer) × MayAnswer (answer_for (outcome (G.table git.old) (V.table gpgv.old) (task_for plan.now)))
+        (answer : Answer) × MayAnswer (IsDue (G.table git.old) (V.table gpgv.old) (task_for plan.now historical))
         (G.faults git.old) (G.faults git.new) (V.faults gpgv.old) (V.faults gpgv.new) answer
         × (answer.status ≡ result) × (answer.out ≡ [])
         × IsPut (E.taken err.old) (E.taken err.new) answer.err (E.faults err.old) (E.faults err.new) }
@@ -58,7 +80,7 @@ fn run_task<G: GitPort, V: SigPort, E: Sink>(
     ensures gpgv_table { V.table gpgv.new ≡ V.table gpgv.old }
     ensures err_told { E.tells err.new ≡ E.tells err.old }
 {
-    let Ok(task) = make_task(alloc, plan) else {
+    let Ok(task) = make_task(alloc, plan, historical) else {
         return tell_refusal(alloc, err, &EngineFail::Memory);
     };
     match authenticate(alloc, git, gpgv, &task) {
@@ -79,7 +101,7 @@ fn run_naming<G: GitPort, V: SigPort, R: FileRoom, E: Sink>(
     err: &mut E,
 ) -> u8
     ensures answer { IsTrue (G.tells git.old) → IsTrue (V.tells gpgv.old) → IsTrue (R.tells room.old) → IsTrue (E.tells err.old) →
-        Ends (after_file (G.table git.old) (V.table gpgv.old) plan.now path.now (keys_at (R.files room.old) path.now)) (Some (file_unread path.now))
+        Ends (IsAfterFile (G.table git.old) (V.table gpgv.old) plan.now path.now (keys_at (R.files room.old) path.now)) (Some (file_unread path.now))
         (G.faults git.old) (G.faults git.new) (V.faults gpgv.old) (V.faults gpgv.new) (R.faults room.old) (R.faults room.new)
         result (E.taken err.old) (E.taken err.new) (E.faults err.old) (E.faults err.new) }
     ensures child_fault { IsChildFault result (G.faults git.old) (G.faults git.new) (V.faults gpgv.old) (V.faults gpgv.new) }
@@ -97,7 +119,7 @@ fn run_naming<G: GitPort, V: SigPort, R: FileRoom, E: Sink>(
         return tell(err, OUT_OF_MEMORY, 6);
     };
     match read_historical(alloc, room, path) {
-        Ok(_) => run_task(alloc, plan, git, gpgv, err),
+        Ok(keys) => run_task(alloc, plan, keys, git, gpgv, err),
         Err(fail) => tell_file(alloc, err, path, unread.as_slice(), &fail),
     }
 }
@@ -112,7 +134,7 @@ fn run_plan<G: GitPort, V: SigPort, R: FileRoom, E: Sink>(
     err: &mut E,
 ) -> u8
     ensures answer { IsTrue (G.tells git.old) → IsTrue (V.tells gpgv.old) → IsTrue (R.tells room.old) → IsTrue (E.tells err.old) →
-        Ends (answer_by (G.table git.old) (V.table gpgv.old) (R.files room.old) plan.now) (option_map file_unread plan.now.historical)
+        Ends (IsAnswerBy (G.table git.old) (V.table gpgv.old) (R.files room.old) plan.now) (option_map file_unread plan.now.historical)
         (G.faults git.old) (G.faults git.new) (V.faults gpgv.old) (V.faults gpgv.new) (R.faults room.old) (R.faults room.new)
         result (E.taken err.old) (E.taken err.new) (E.faults err.old) (E.faults err.new) }
     ensures child_fault { IsChildFault result (G.faults git.old) (G.faults git.new) (V.faults gpgv.old) (V.faults gpgv.new) }
@@ -128,7 +150,7 @@ fn run_plan<G: GitPort, V: SigPort, R: FileRoom, E: Sink>(
 {
     match &plan.historical {
         Some(path) => run_naming(alloc, plan, path.as_str(), git, gpgv, room, err),
-        None => run_task(alloc, plan, git, gpgv, err),
+        None => run_task(alloc, plan, KeySet::new(alloc), git, gpgv, err),
     }
 }
 
@@ -168,7 +190,7 @@ pub fn run<G: GitPort, V: SigPort, K: Keeper, R: FileRoom, O: Sink, E: Sink>(
     // Status and texts are those of the answer to the words over git's answers, gpgv's verdicts and the files, unless a
     // child's call or one of the room failed, or memory is wanting.
     ensures answer { IsTrue (G.tells git.old) → IsTrue (V.tells gpgv.old) → IsTrue (R.tells room.old) → IsTrue (O.tells out.old) → IsTrue (E.tells err.old) →
-        (answer : Answer) × MayEnd (answer_of (G.table git.old) (V.table gpgv.old) (R.files room.old) words.now) (unread_by (command_of words.now))
+        (answer : Answer) × MayEnd (IsAnswerOf (G.table git.old) (V.table gpgv.old) (R.files room.old) words.now) (unread_by (command_of words.now))
         (G.faults git.old) (G.faults git.new) (V.faults gpgv.old) (V.faults gpgv.new) (R.faults room.old) (R.faults room.new) answer
         × IsStatus answer.status result
         × IsPut (O.taken out.old) (O.taken out.new) answer.out (O.faults out.old) (O.faults out.new)

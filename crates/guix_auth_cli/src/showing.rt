@@ -4,8 +4,8 @@ ghost use Rattle.auth_report.specs.FileTexts.{file_line};
 ghost use Rattle.guix_auth_cli.specs.Historical.{is_unread};
 ghost use Rattle.guix_auth_cli.specs.Run.{status_of, ShowsRefusal, ShowsRead, ShowsFile, IsPut};
 
-use auth_engine::EngineFail;
 use auth_report::{FileFail, file_refusal, refusal};
+use auth_target::EngineFail;
 use child_ports::Sink;
 use std::alloc::Global;
 
@@ -32,9 +32,12 @@ fn own_status(fail: &EngineFail) -> u8
     ensures { result ≡ status_of fail.now }
 {
     match fail {
-        EngineFail::Intro { .. } => 1,
-        EngineFail::Name { .. } | EngineFail::NotIntroduction { .. } | EngineFail::Object { .. } =>
-            3,
+        EngineFail::Intro { .. } | EngineFail::Unrelated { .. } | EngineFail::Commit { .. } => 1,
+        EngineFail::Name { .. }
+        | EngineFail::Keyring(_)
+        | EngineFail::TooMany
+        | EngineFail::Object { .. }
+        | EngineFail::Cycle(_) => 3,
         EngineFail::GitFault | EngineFail::SigFault => 4,
         EngineFail::Memory => 6,
     }

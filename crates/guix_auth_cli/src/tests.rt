@@ -11,34 +11,73 @@ use std::io::Write;
 use std::process::Abort;
 use std::test::Fail;
 
-const ID: &str = "63d76773523ce13694eb1f0ecc550da4c3384233";
+const ID: &str = "c5b3951a7b98ca49d3fa7d4530956973151cf076";
 
-const SIGNER: &str = "BBB02DDF2CEAF6A80D1DE643A2A06DF2A33A54FA";
+const CHILD_ID: &str = "db11cb0c319d8b36cad8be1eca227795293d7646";
+
+const SIGNER: &str = "B4754DB47B6A4BC3DCFFB18A9480FD267E05848C";
 
 const ZEROS: &str = "0000000000000000000000000000000000000000";
 
-const FRAME: &str =
-    "63d76773523ce13694eb1f0ecc550da4c3384233 commit 130\ntree 4b825dc642cb6eb9a060e54bf8d69288fbee4904\nauthor A <a@example.org> 0 +0000\ncommitter A <a@example.org> 0 +0000\ngpgsig x\n y\n\nm\n\n";
+// The names that git knows, and its answers: the keyring's tree and key, the tree of both commits and its file, the commits.
+const ANSWERS: [(&str, &[u8]); 7] = [
+    (
+        "keyring^{tree}",
+        b"ff2bc7657984bf75821dcf11aba4639665656c3b tree 33\n100644 a.key\x00\xc1/\xba?h\x8e7\xbb\xd0H\xbb\xd7V\x92\x95z\x00\xfe\x8d\xef\n",
+    ),
+    (
+        "c12fba3f688e37bbd048bbd75692957a00fe8def",
+        b"c12fba3f688e37bbd048bbd75692957a00fe8def blob 9\n\x98\x07\x04\x00\x00\x00\x00\x01a\n",
+    ),
+    (
+        "7da8899c20e4d73cf13a8e8530611684c9d596d1",
+        b"7da8899c20e4d73cf13a8e8530611684c9d596d1 blob 76\n(authorizations (version 0) ((\"B4754DB47B6A4BC3DCFFB18A9480FD267E05848C\")))\n\n",
+    ),
+    (
+        "f553a23004acdcbc64c188d91ab9749c495f26ae",
+        b"f553a23004acdcbc64c188d91ab9749c495f26ae tree 48\n100644 .guix-authorizations\x00}\xa8\x89\x9c \xe4\xd7<\xf1:\x8e\x850a\x16\x84\xc9\xd5\x96\xd1\n",
+    ),
+    (
+        ID,
+        b"c5b3951a7b98ca49d3fa7d4530956973151cf076 commit 129\ntree f553a23004acdcbc64c188d91ab9749c495f26ae\nauthor A <a@example.org> 0 +0000\ncommitter A <a@example.org> 0 +0000\ngpgsig one\n\ni\n\n",
+    ),
+    (
+        CHILD_ID,
+        b"db11cb0c319d8b36cad8be1eca227795293d7646 commit 177\ntree f553a23004acdcbc64c188d91ab9749c495f26ae\nparent c5b3951a7b98ca49d3fa7d4530956973151cf076\nauthor A <a@example.org> 0 +0000\ncommitter A <a@example.org> 0 +0000\ngpgsig two\n\nc\n\n",
+    ),
+    (
+        "HEAD^{commit}",
+        b"db11cb0c319d8b36cad8be1eca227795293d7646 commit 177\ntree f553a23004acdcbc64c188d91ab9749c495f26ae\nparent c5b3951a7b98ca49d3fa7d4530956973151cf076\nauthor A <a@example.org> 0 +0000\ncommitter A <a@example.org> 0 +0000\ngpgsig two\n\nc\n\n",
+    ),
+];
 
-const PAYLOAD: &str =
-    "tree 4b825dc642cb6eb9a060e54bf8d69288fbee4904\nauthor A <a@example.org> 0 +0000\ncommitter A <a@example.org> 0 +0000\n\nm\n";
+const KEYRING: &[u8] = b"\x98\x07\x04\x00\x00\x00\x00\x01a";
 
-const VALID: &str =
-    "[GNUPG:] VALIDSIG BBB02DDF2CEAF6A80D1DE643A2A06DF2A33A54FA 2020-01-01 1577836800 0 4 0 1 8 00";
+const INTRO_PAYLOAD: &[u8] =
+    b"tree f553a23004acdcbc64c188d91ab9749c495f26ae\nauthor A <a@example.org> 0 +0000\ncommitter A <a@example.org> 0 +0000\n\ni\n";
+
+const CHILD_PAYLOAD: &[u8] =
+    b"tree f553a23004acdcbc64c188d91ab9749c495f26ae\nparent c5b3951a7b98ca49d3fa7d4530956973151cf076\nauthor A <a@example.org> 0 +0000\ncommitter A <a@example.org> 0 +0000\n\nc\n";
+
+const VALID: &[u8] =
+    b"[GNUPG:] VALIDSIG B4754DB47B6A4BC3DCFFB18A9480FD267E05848C 2020-01-01 1577836800 0 4 0 1 8 00\n";
 
 const WRONG_SIGNER: &str =
-    "guix-auth: introduction 63d76773523ce13694eb1f0ecc550da4c3384233 is refused: it is signed by BBB02DDF2CEAF6A80D1DE643A2A06DF2A33A54FA and not by 0000000000000000000000000000000000000000\n";
+    "guix-auth: introduction c5b3951a7b98ca49d3fa7d4530956973151cf076 is refused: it is signed by B4754DB47B6A4BC3DCFFB18A9480FD267E05848C and not by 0000000000000000000000000000000000000000\n";
 
 const NO_VERDICT: &str =
-    "guix-auth: introduction 63d76773523ce13694eb1f0ecc550da4c3384233 is refused: the verifier gave no verdict\n";
+    "guix-auth: introduction c5b3951a7b98ca49d3fa7d4530956973151cf076 is refused: the verifier gave no verdict\n";
 
-// What a run is given: the signer that is asked for, whether git has the commit and gpgv a verdict, and the number of
-// the call of git that fails, or 0.
+const CHILD_REFUSED: &str =
+    "guix-auth: commit db11cb0c319d8b36cad8be1eca227795293d7646 is refused: the verifier gave no verdict\n";
+
+// What a run is given: the signer that is asked for, whether git has the commits, the number of commits that gpgv has a
+// verdict on, and the number of the call of git that fails, or 0.
 #[derive(Drop)]
 struct Given {
     signer: &'static str,
     commit: bool,
-    verdict: bool,
+    verdicts: u8,
     failing: u64,
 }
 
@@ -60,33 +99,37 @@ fn text_of(alloc: Global, text: &str) -> Result<Text, AllocError> {
     Ok(copy)
 }
 
-fn git_row(alloc: Global, name: &str) -> Result<GitRow, AllocError> {
-    Ok(GitRow {
-        dir: text_of(alloc, ".")?,
-        name: bytes_of(alloc, name)?,
-        answer: bytes_of(alloc, FRAME)?,
-    })
-}
-
-// The commit under HEAD and under its id.
+// A history of two commits, their keyring and their files.
 fn git_rows(alloc: Global, commit: bool) -> Result<GitRows, AllocError> {
     let mut rows = GitRows::new(alloc);
     if commit {
-        rows.push(git_row(alloc, "HEAD^{commit}")?)?;
-        rows.push(git_row(alloc, ID)?)?;
+        for (name, answer) in ANSWERS {
+            rows.push(GitRow {
+                dir: text_of(alloc, ".")?,
+                name: bytes_of(alloc, name)?,
+                answer: Bytes::from_slice(alloc, answer)?,
+            })?;
+        }
     }
     Ok(rows)
 }
 
-fn sig_rows(alloc: Global, verdict: bool) -> Result<SigRows, AllocError> {
+fn sig_row(alloc: Global, signature: &[u8], payload: &[u8]) -> Result<SigRow, AllocError> {
+    Ok(SigRow {
+        keyring: Bytes::from_slice(alloc, KEYRING)?,
+        signature: Bytes::from_slice(alloc, signature)?,
+        payload: Bytes::from_slice(alloc, payload)?,
+        answer: Bytes::from_slice(alloc, VALID)?,
+    })
+}
+
+fn sig_rows(alloc: Global, verdicts: u8) -> Result<SigRows, AllocError> {
     let mut rows = SigRows::new(alloc);
-    if verdict {
-        rows.push(SigRow {
-            keyring: Bytes::new(alloc),
-            signature: bytes_of(alloc, "x\ny\n")?,
-            payload: bytes_of(alloc, PAYLOAD)?,
-            answer: bytes_of(alloc, VALID)?,
-        })?;
+    if verdicts > 0 {
+        rows.push(sig_row(alloc, b"one\n", INTRO_PAYLOAD)?)?;
+    }
+    if verdicts > 1 {
+        rows.push(sig_row(alloc, b"two\n", CHILD_PAYLOAD)?)?;
     }
     Ok(rows)
 }
@@ -149,7 +192,7 @@ fn run_over<G: GitPort, V: SigPort>(
 
 fn check(rt: &impl Abort, alloc: Global, given: &Given, want: &Want) -> Result<(), AllocError> {
     let mut git = git_of(rt, alloc, given)?;
-    let mut gpgv = MemSig::new(alloc, sig_rows(alloc, given.verdict)?, Numbers::new(alloc))?;
+    let mut gpgv = MemSig::new(alloc, sig_rows(alloc, given.verdicts)?, Numbers::new(alloc))?;
     let (status, err) = run_over(alloc, given.signer, &mut git, &mut gpgv)?;
     assert_eq!(rt; status, want.status, "at {}", want.line);
     assert_eq!(rt; gpgv.asked(), want.asked, "at {}", want.line);
@@ -162,7 +205,7 @@ fn a_valid_signature_of_the_signer_is_accepted(rt: HostRuntime) -> Result<(), Fa
     let given = Given {
         signer: SIGNER,
         commit: true,
-        verdict: true,
+        verdicts: 2,
         failing: 0,
     };
     check(
@@ -171,7 +214,7 @@ fn a_valid_signature_of_the_signer_is_accepted(rt: HostRuntime) -> Result<(), Fa
         &given,
         &Want {
             status: 0,
-            asked: 1,
+            asked: 2,
             line: "",
         },
     )?;
@@ -183,7 +226,7 @@ fn another_signer_is_refused(rt: HostRuntime) -> Result<(), Fail> {
     let given = Given {
         signer: ZEROS,
         commit: true,
-        verdict: true,
+        verdicts: 2,
         failing: 0,
     };
     check(
@@ -204,7 +247,7 @@ fn no_verdict_is_refused(rt: HostRuntime) -> Result<(), Fail> {
     let given = Given {
         signer: SIGNER,
         commit: true,
-        verdict: false,
+        verdicts: 0,
         failing: 0,
     };
     check(
@@ -221,11 +264,32 @@ fn no_verdict_is_refused(rt: HostRuntime) -> Result<(), Fail> {
 }
 
 #[test]
+fn a_commit_without_a_verdict_is_refused(rt: HostRuntime) -> Result<(), Fail> {
+    let given = Given {
+        signer: SIGNER,
+        commit: true,
+        verdicts: 1,
+        failing: 0,
+    };
+    check(
+        &rt,
+        rt.alloc(),
+        &given,
+        &Want {
+            status: 1,
+            asked: 2,
+            line: CHILD_REFUSED,
+        },
+    )?;
+    Ok(())
+}
+
+#[test]
 fn a_failed_call_of_git_is_told(rt: HostRuntime) -> Result<(), Fail> {
     let given = Given {
         signer: SIGNER,
         commit: true,
-        verdict: true,
+        verdicts: 2,
         failing: 1,
     };
     check(
@@ -246,7 +310,7 @@ fn a_target_that_git_lacks_is_refused(rt: HostRuntime) -> Result<(), Fail> {
     let given = Given {
         signer: SIGNER,
         commit: false,
-        verdict: true,
+        verdicts: 2,
         failing: 0,
     };
     check(
@@ -298,11 +362,11 @@ fn check_words(
     let given = Given {
         signer: SIGNER,
         commit: true,
-        verdict: true,
+        verdicts: 2,
         failing: 0,
     };
     let mut git = git_of(rt, alloc, &given)?;
-    let mut gpgv = MemSig::new(alloc, sig_rows(alloc, true)?, Numbers::new(alloc))?;
+    let mut gpgv = MemSig::new(alloc, sig_rows(alloc, 2)?, Numbers::new(alloc))?;
     let (status, err) = run_words(alloc, words, &mut git, &mut gpgv, room)?;
     assert_eq!(rt; status, want.status, "at {words:?}");
     assert_eq!(rt; gpgv.asked(), want.asked, "at {words:?}");
@@ -334,7 +398,7 @@ fn refused(status: u8, line: &'static str) -> Want {
 fn a_file_of_historical_keys_is_read_before_the_target(rt: HostRuntime) -> Result<(), Fail> {
     let accepted = Want {
         status: 0,
-        asked: 1,
+        asked: 2,
         line: "",
     };
     check_file(
@@ -383,7 +447,7 @@ fn a_file_of_more_than_a_mebibyte_is_too_long(rt: HostRuntime) -> Result<(), Fai
     }
     let accepted = Want {
         status: 0,
-        asked: 1,
+        asked: 2,
         line: "",
     };
     check_file(&rt, rt.alloc(), file.as_slice(), 0, &accepted)?;

@@ -1,5 +1,5 @@
 use Rattle.std.proofs.Common.{◌≡◌, ◌⊎◌, inr, ap, ◌∙◌, sym, nat_eq, ℕ, arith, refl}
-use Rattle.auth_engine.specs.declared.engine_fail.EngineFail.TheVariants.{GitFault, SigFault, Memory}
+use Rattle.auth_target.specs.declared.engine_fail.EngineFail.TheVariants.{GitFault, SigFault, Memory}
 use Rattle.guix_auth_cli.proofs.RunLemmas.{shows, no_fault}
 use Rattle.guix_auth_cli.proofs.showing.tell_refusal.Goals as goal
 
