@@ -1,3 +1,4 @@
 pub mod FileTexts
 pub mod Parts
+pub mod Statistics
 pub mod Texts

@@ -11,6 +11,9 @@ git_failed = codes "git failed"
 abbrev pub gpgv_failed : List ℕ
 gpgv_failed = codes "gpgv failed"
 
+abbrev pub store_failed : List ℕ
+store_failed = codes "the store failed"
+
 abbrev pub out_of_memory : List ℕ
 out_of_memory = codes "out of memory"
 

@@ -12,6 +12,8 @@ use Rattle.tree_entries.specs.declared.fail.TreeFail.{TreeFail}
 use Rattle.tree_entries.specs.declared.fail.TreeFail.TheVariants as tree
 use Rattle.openpgp_status.specs.declared.judged.Judged.{Judged}
 use Rattle.openpgp_status.specs.declared.judged.Judged.TheVariants as judged
+use Rattle.auth_cache.specs.declared.fail.CacheFail.{CacheFail}
+use Rattle.auth_cache.specs.declared.fail.CacheFail.TheVariants as cache
 use Rattle.keyring_branch.specs.declared.key_fail.KeyFail.{KeyFail}
 use Rattle.keyring_branch.specs.declared.key_fail.KeyFail.TheVariants as key
 use Rattle.keyring_branch.specs.declared.keyring_fail.FileBad.{FileBad}
@@ -22,12 +24,12 @@ use Rattle.auth_rules.specs.declared.cause.What.{What}
 use Rattle.auth_rules.specs.declared.cause.What.TheVariants as what
 use Rattle.auth_rules.specs.declared.cause.Cause.{Cause}
 use Rattle.auth_rules.specs.declared.cause.Cause.TheVariants as cause
-use Rattle.auth_target.specs.declared.engine_fail.Which.{Which}
-use Rattle.auth_target.specs.declared.engine_fail.Which.TheVariants.{Target, Introduction}
-use Rattle.auth_target.specs.declared.engine_fail.EngineFail.{EngineFail}
-use Rattle.auth_target.specs.declared.engine_fail.EngineFail.TheVariants as fail
+use Rattle.auth_engine.specs.declared.engine_fail.Which.{Which}
+use Rattle.auth_engine.specs.declared.engine_fail.Which.TheVariants.{Target, Introduction}
+use Rattle.auth_engine.specs.declared.engine_fail.EngineFail.{EngineFail}
+use Rattle.auth_engine.specs.declared.engine_fail.EngineFail.TheVariants as fail
 use Rattle.auth_report.specs.FileTexts.{auth_text}
-use Rattle.auth_report.specs.Parts.{line_of, git_failed, gpgv_failed, out_of_memory, shown}
+use Rattle.auth_report.specs.Parts.{line_of, git_failed, gpgv_failed, store_failed, out_of_memory, shown}
 
 abbrev pub frame_text : FrameFail → List ℕ
 frame_text frame.Failed = git_failed
@@ -119,6 +121,12 @@ ring_text (ring.File name bad) = (codes "keyring file " ++ shown name ++ codes "
 ring_text ring.TooLarge = codes "keyring is longer than 67108864 bytes"
 ring_text ring.Memory = out_of_memory
 
+-- why what is kept is no cache text
+abbrev pub cache_text : CacheFail → List ℕ
+cache_text (cache.Version n) = codes "cache: version " ++ decimal n ++ codes " is not supported"
+cache_text (cache.Form at) = codes "cache: bad form at byte " ++ decimal at
+cache_text cache.Memory = out_of_memory
+
 abbrev pub which_text : Which → List ℕ
 which_text Target = codes "target commit: "
 which_text Introduction = codes "introduction commit: "
@@ -127,6 +135,7 @@ which_text Introduction = codes "introduction commit: "
 abbrev pub fail_text : EngineFail → List ℕ
 fail_text (fail.Name which what) = which_text which ++ what_text what
 fail_text (fail.Keyring why) = ring_text why
+fail_text (fail.Cache why) = cache_text why
 fail_text fail.TooMany = codes "more than 1000000 commits"
 fail_text (fail.Object id what) = object_text id what
 fail_text (fail.Cycle id) = codes "the history of commit " ++ encode_lower id ++ codes " is cyclic"
@@ -135,6 +144,7 @@ fail_text (fail.Unrelated target intro) = (codes "commit " ++ encode_lower targe
 fail_text (fail.Commit id why) = (codes "commit " ++ encode_lower id ++ codes " is refused: ") ++ cause_text why
 fail_text fail.GitFault = git_failed
 fail_text fail.SigFault = gpgv_failed
+fail_text fail.KeepFault = store_failed
 fail_text fail.Memory = out_of_memory
 
 abbrev pub refusal_line : EngineFail → List ℕ

@@ -2,7 +2,7 @@
 ghost use Rattle.std.specs.Prelude.{◌≡◌, ◌++◌, OnOk, IfOk, decimal};
 ghost use Rattle.auth_report.specs.FileTexts.{sexp_text, auth_text, trouble_text, file_line};
 
-use crate::parts::{push_name, push_number, push_place};
+use crate::parts::{push_name, push_numbered, push_place};
 use authorizations::AuthFail;
 use child_ports::Bytes;
 use sexp_reader::SexpFail;
@@ -21,15 +21,6 @@ pub enum FileFail {
     Failed,
     /// Memory is wanting.
     Memory,
-}
-
-// Adds a number between words.
-fn push_numbered(text: &mut Bytes, words: &[u8], number: u64, more: &[u8]) -> Result<(), AllocError>
-    ensures { OnOk result (text.new ≡ text.old ++ (words.now ++ decimal number ++ more.now)) }
-{
-    text.extend(words)?;
-    push_number(text, number)?;
-    text.extend(more)
 }
 
 // Adds why bytes have no first datum.

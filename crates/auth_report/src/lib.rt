@@ -1,7 +1,8 @@
 //! The texts that the program prints, as functions of what it answers.
 //!
 //! [`refusal`] gives the line for a target that isn't accepted, [`file_refusal`] that for a file which words name.
-//! `specs/Texts.antt` and `specs/FileTexts.antt` have every text.
+//! [`statistics`] the lines on who signed. `specs/Texts.antt`, `specs/FileTexts.antt` and
+//! `specs/Statistics.antt` have every text.
 #![tactic(auto)]
 
 mod causes;
@@ -9,7 +10,9 @@ mod files;
 mod parts;
 mod refusals;
 mod rings;
+mod tallies;
 mod whats;
 
 pub use files::{FileFail, file_refusal};
 pub use refusals::refusal;
+pub use tallies::statistics;

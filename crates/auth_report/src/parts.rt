@@ -42,6 +42,20 @@ pub fn push_place(text: &mut Bytes, words: &[u8], place: u64) -> Result<(), Allo
     push_number(text, place)
 }
 
+/// Adds a number between words.
+pub fn push_numbered(
+    text: &mut Bytes,
+    words: &[u8],
+    number: u64,
+    more: &[u8],
+) -> Result<(), AllocError>
+    ensures { OnOk result (text.new ≡ text.old ++ (words.now ++ decimal number ++ more.now)) }
+{
+    text.extend(words)?;
+    push_number(text, number)?;
+    text.extend(more)
+}
+
 /// Adds an id between words.
 pub fn push_named(text: &mut Bytes, words: &[u8], id: Id, more: &[u8]) -> Result<(), AllocError>
     ensures { OnOk result (text.new ≡ text.old ++ (words.now ++ encode_lower id ++ more.now)) }

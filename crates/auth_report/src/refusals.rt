@@ -1,15 +1,16 @@
 //! Why a target isn't accepted, as a line.
 ghost use Rattle.std.specs.Prelude.{◌≡◌, ◌++◌, codes, OnOk, IfOk};
 ghost use Rattle.hex.specs.Hex.{encode_lower};
-ghost use Rattle.auth_target.specs.declared.engine_fail.EngineFail.TheVariants.{Unrelated, Intro, Commit, Name};
-ghost use Rattle.auth_report.specs.Texts.{which_text, fail_text, refusal_line};
+ghost use Rattle.auth_engine.specs.declared.engine_fail.EngineFail.TheVariants.{Unrelated, Intro, Commit, Name};
+ghost use Rattle.auth_report.specs.Texts.{which_text, cache_text, fail_text, refusal_line};
 
 use crate::causes::push_cause;
-use crate::parts::{push_id, push_named};
+use crate::parts::{push_id, push_named, push_numbered, push_place};
 use crate::rings::push_ring;
 use crate::whats::{push_object, push_what};
+use auth_cache::CacheFail;
+use auth_engine::{EngineFail, Which};
 use auth_rules::{Cause, What};
-use auth_target::{EngineFail, Which};
 use child_ports::Bytes;
 use object_frames::Id;
 use std::alloc::{AllocError, Global};
@@ -48,6 +49,19 @@ fn push_unrelated(text: &mut Bytes, target: Id, intro: Id) -> Result<(), AllocEr
     push_commit(text, b" is not related to introduction ", intro)
 }
 
+// Adds why what is kept is no cache text.
+fn push_cache(text: &mut Bytes, why: CacheFail) -> Result<(), AllocError>
+    ensures { OnOk result (text.new ≡ text.old ++ cache_text why) }
+{
+    match why {
+        CacheFail::Version(n) => {
+            push_numbered(text, b"cache: version ", n as u64, b" is not supported")
+        }
+        CacheFail::Form(at) => push_place(text, b"cache: bad form at byte ", at),
+        CacheFail::Memory => text.extend(b"out of memory"),
+    }
+}
+
 // Adds the introduction that is refused, and why.
 fn push_intro(text: &mut Bytes, id: Id, cause: Cause) -> Result<(), AllocError>
     ensures { OnOk result (text.new ≡ text.old ++ fail_text (Intro id cause)) }
@@ -71,6 +85,7 @@ fn push_fail(text: &mut Bytes, fail: &EngineFail) -> Result<(), AllocError>
     match fail {
         EngineFail::Name { which, what } => push_unnamed(text, *which, *what),
         EngineFail::Keyring(why) => push_ring(text, why),
+        EngineFail::Cache(why) => push_cache(text, *why),
         EngineFail::TooMany => text.extend(b"more than 1000000 commits"),
         EngineFail::Object { id, what } => push_object(text, *id, *what),
         EngineFail::Cycle(id) => { push_named(text, b"the history of commit ", *id, b" is cyclic") }
@@ -79,6 +94,7 @@ fn push_fail(text: &mut Bytes, fail: &EngineFail) -> Result<(), AllocError>
         EngineFail::Commit { id, cause } => push_refused(text, *id, *cause),
         EngineFail::GitFault => text.extend(b"git failed"),
         EngineFail::SigFault => text.extend(b"gpgv failed"),
+        EngineFail::KeepFault => text.extend(b"the store failed"),
         EngineFail::Memory => text.extend(b"out of memory"),
     }
 }

@@ -1,2 +1,6 @@
+pub mod PlanRunLemmas
 pub mod RunLemmas
-pub mod WordsLemmas
+pub mod ShownLemmas
+pub mod StoringLemmas
+pub mod TaskLemmas
+pub mod TaskRunLemmas

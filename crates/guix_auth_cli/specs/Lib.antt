@@ -1,4 +1,6 @@
+pub mod Answers
+pub mod Faults
 pub mod Historical
+pub mod Outside
 pub mod Run
-pub mod Words
-pub mod WordsInside
+pub mod Shown

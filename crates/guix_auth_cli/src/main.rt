@@ -1,20 +1,20 @@
 //! The program `guix-auth`: it authenticates Git histories by the rules of GNU Guix channels.
 //!
-//! `running::run` is the top call, and its contract is the theorem of the program. `specs/Words.antt` says what words
-//! ask for, `specs/Run.antt` what a run shows. `main` makes the real children and streams, and calls it.
+//! `running::run` is the top call, and its contract is the theorem of the program. `specs/Answers.antt` says what
+//! is due to words, `specs/Run.antt` how a run ends. `main` makes the real children and streams, and calls it.
 #![tactic(auto)]
 
-mod children;
 mod help;
 mod historical;
 mod running;
 mod showing;
+mod storing;
+mod tasking;
 #[cfg(test)]
 mod tests;
-mod words;
 
-use child_ports::{MemKeeper, Numbers, Pairs, Text, Words};
-use children::{ChildGit, ChildSig, RealRoom, StdSink, program_named, store_root};
+use child_ports::{Text, Words};
+use real_ports::{ChildGit, ChildSig, FileKeeper, RealRoom, StdSink, program_named, store_root};
 use std::io::ErrorKind;
 use std::process::ExitCode;
 use std::{env, io};
@@ -43,13 +43,12 @@ fn run_program(rt: HostRuntime) -> io::Result<u8> {
     let git = program_named(&rt, "GUIX_AUTH_GIT", "git")?;
     let gpgv = program_named(&rt, "GUIX_AUTH_GPGV", "gpgv")?;
     let root = store_root(&rt)?;
-    let none = Pairs::new(alloc);
     Ok(running::run(
         alloc,
         &words,
         &mut ChildGit::new(rt, git.as_str())?,
         &mut ChildSig::new(rt, gpgv.as_str(), root.as_str())?,
-        &mut MemKeeper::new(alloc, &none, Numbers::new(alloc))?,
+        &mut FileKeeper::new(rt, root.as_str())?,
         &mut RealRoom::new(rt),
         &mut StdSink::new(rt.stdout()),
         &mut StdSink::new(rt.stderr()),

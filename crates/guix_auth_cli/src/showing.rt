@@ -1,17 +1,20 @@
 //! Texts put into sinks.
-ghost use Rattle.std.specs.Prelude.{◌≡◌, ◌≢◌, nat_eq, false, IsTrue};
+ghost use Rattle.std.specs.Prelude.{◌≡◌, ◌⊎◌, nat_eq, IsTrue};
 ghost use Rattle.auth_report.specs.FileTexts.{file_line};
-ghost use Rattle.guix_auth_cli.specs.Historical.{is_unread};
-ghost use Rattle.guix_auth_cli.specs.Run.{status_of, ShowsRefusal, ShowsRead, ShowsFile, IsPut};
+ghost use Rattle.guix_auth_cli.specs.Answers.{status_of};
+ghost use Rattle.guix_auth_cli.specs.Shown.{ShowsRefusal, ShowsRead, ShowsFile, IsFileStatus, IsPut};
 
+use auth_engine::EngineFail;
 use auth_report::{FileFail, file_refusal, refusal};
-use auth_target::EngineFail;
 use child_ports::Sink;
 use std::alloc::Global;
 
 const GIT_FAILED: &[u8] = b"guix-auth: git failed\n";
 
 const GPGV_FAILED: &[u8] = b"guix-auth: gpgv failed\n";
+
+/// The line for a failed call of the keeper.
+pub const STORE_FAILED: &[u8] = b"guix-auth: the store failed\n";
 
 /// The line for want of memory.
 pub const OUT_OF_MEMORY: &[u8] = b"guix-auth: out of memory\n";
@@ -35,10 +38,12 @@ fn own_status(fail: &EngineFail) -> u8
         EngineFail::Intro { .. } | EngineFail::Unrelated { .. } | EngineFail::Commit { .. } => 1,
         EngineFail::Name { .. }
         | EngineFail::Keyring(_)
+        | EngineFail::Cache(_)
         | EngineFail::TooMany
         | EngineFail::Object { .. }
         | EngineFail::Cycle(_) => 3,
         EngineFail::GitFault | EngineFail::SigFault => 4,
+        EngineFail::KeepFault => 5,
         EngineFail::Memory => 6,
     }
 }
@@ -47,13 +52,14 @@ fn own_status(fail: &EngineFail) -> u8
 pub fn tell_refusal<E: Sink>(alloc: Global, err: &mut E, fail: &EngineFail) -> u8
     ensures told { E.tells err.new ≡ E.tells err.old }
     ensures shown { IsTrue (E.tells err.old) → ShowsRefusal fail.now result (E.taken err.old) (E.taken err.new) (E.faults err.old) (E.faults err.new) }
+    ensures status { (result ≡ status_of fail.now) ⊎ (result ≡ 6) }
     ensures fault { nat_eq result 4 ≡ nat_eq (status_of fail.now) 4 }
-    ensures no_words { result ≢ 2 }
-    ensures no_sink { result ≢ 5 }
+    ensures keeper_fault { nat_eq result 5 ≡ nat_eq (status_of fail.now) 5 }
 {
     match fail {
         EngineFail::GitFault => tell(err, GIT_FAILED, 4),
         EngineFail::SigFault => tell(err, GPGV_FAILED, 4),
+        EngineFail::KeepFault => tell(err, STORE_FAILED, 5),
         EngineFail::Memory => tell(err, OUT_OF_MEMORY, 6),
         fail => match refusal(alloc, fail) {
             Ok(line) => tell(err, line.as_slice(), own_status(fail)),
@@ -66,9 +72,7 @@ pub fn tell_refusal<E: Sink>(alloc: Global, err: &mut E, fail: &EngineFail) -> u
 fn tell_read<E: Sink>(alloc: Global, err: &mut E, path: &str, fail: &FileFail) -> u8
     ensures told { E.tells err.new ≡ E.tells err.old }
     ensures shown { IsTrue (E.tells err.old) → ShowsRead path.now fail.now result (E.taken err.old) (E.taken err.new) (E.faults err.old) (E.faults err.new) }
-    ensures no_words { result ≢ 2 }
-    ensures no_child { nat_eq result 4 ≡ false }
-    ensures no_other { nat_eq result 5 ≡ false }
+    ensures status { (result ≡ 3) ⊎ (result ≡ 6) }
 {
     match file_refusal(alloc, path, fail) {
         Ok(line) => tell(err, line.as_slice(), 3),
@@ -88,9 +92,7 @@ pub fn tell_file<E: Sink>(
     requires line { unread.now ≡ file_line path.now FileFail.Failed }
     ensures told { E.tells err.new ≡ E.tells err.old }
     ensures shown { IsTrue (E.tells err.old) → ShowsFile path.now fail.now result (E.taken err.old) (E.taken err.new) (E.faults err.old) (E.faults err.new) }
-    ensures no_words { result ≢ 2 }
-    ensures no_child { nat_eq result 4 ≡ false }
-    ensures fault { nat_eq result 5 ≡ is_unread fail.now }
+    ensures status { IsFileStatus fail.now result }
 {
     match fail {
         FileFail::Failed => tell(err, unread, 5),

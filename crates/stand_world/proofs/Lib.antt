@@ -1,6 +1,12 @@
+pub mod FitLemmas
 pub mod HashLemmas
 pub mod LineLemmas
 pub mod LoopLemmas
+pub mod MadeLemmas
+pub mod NameLemmas
+pub mod NumberLemmas
+pub mod ObjectLemmas
 pub mod ScriptLemmas
+pub mod SoundLemmas
 pub mod StatusLemmas
 pub mod ToyLemmas

@@ -24,7 +24,7 @@ use Rattle.stand_world.specs.declared.toy.Toy.{Toy}
 
 -- ---- what is written has four lines
 
-glyph_no_end : (k : ℕ) → k < 16 → slice_index upper_digits k ≢ 10
+pub glyph_no_end : (k : ℕ) → k < 16 → slice_index upper_digits k ≢ 10
 glyph_no_end k lt e = false≢true (ap (λ b. not (eqb b 10)) (sym e) ∙ AllPass-from_list_all (λ b. not (eqb b 10)) upper_digits refl k 0 lt)
 
 tail_bytes : (x : ℕ) (xs : List ℕ) → IsBytes (x ∷ xs) → IsBytes xs
@@ -37,7 +37,7 @@ no_end_upper (x ∷ xs) h =
     let byte = h 0 in
     (glyph_no_end (x / 16) (omega arith), (glyph_no_end (x % 16) (omega arith), no_end_upper xs (tail_bytes x xs h)))
 
-abbrev lines_text : List ℕ → List ℕ → List ℕ → List ℕ → List ℕ
+abbrev pub lines_text : List ℕ → List ℕ → List ℕ → List ℕ → List ℕ
 lines_text a b c d = a ++ 10 ∷ (b ++ 10 ∷ (c ++ 10 ∷ (d ++ 10 ∷ [])))
 
 four_lines : (a b c d : List ℕ) → Lacks 10 a → Lacks 10 b → Lacks 10 c → Lacks 10 d → parts_at 10 (lines_text a b c d) ≡ a ∷ b ∷ c ∷ d ∷ [] ∷ []
@@ -50,16 +50,16 @@ four_lines a b c d one two three four =
 regroup : (a b c d e f g : List ℕ) → ((((((a ++ b) ++ c) ++ d) ++ e) ++ f) ++ g) ≡ a ++ (b ++ (c ++ (d ++ (e ++ (f ++ g)))))
 regroup a b c d e f g = simp append_assoc
 
-abbrev key_line : Toy → List ℕ
+abbrev pub key_line : Toy → List ℕ
 key_line toy = codes "key " ++ encode_upper toy.key.0
 
-abbrev hash_line : Toy → List ℕ
+abbrev pub hash_line : Toy → List ℕ
 hash_line toy = codes "hash " ++ decimal toy.hash
 
-abbrev digest_line : Toy → List ℕ
+abbrev pub digest_line : Toy → List ℕ
 digest_line toy = codes "sha1 " ++ encode_lower toy.digest
 
-lines_of_toy : (toy : Toy) → toy_bytes toy ≡ lines_text (codes "TOY SIGNATURE") (key_line toy) (hash_line toy) (digest_line toy)
+pub lines_of_toy : (toy : Toy) → toy_bytes toy ≡ lines_text (codes "TOY SIGNATURE") (key_line toy) (hash_line toy) (digest_line toy)
 lines_of_toy toy = regroup (codes "TOY SIGNATURE\nkey ") (encode_upper toy.key.0) (codes "\nhash ") (decimal toy.hash) (codes "\nsha1 ") (encode_lower toy.digest) (codes "\n")
 
 parts_of_toy : (toy : Toy) → IsToy toy → parts_at 10 (toy_bytes toy) ≡ codes "TOY SIGNATURE" ∷ key_line toy ∷ hash_line toy ∷ digest_line toy ∷ [] ∷ []
@@ -152,12 +152,12 @@ key_fits digits key h =
     ] refl h
 
 -- what a step found, and what follows it
-record Found {A B : Type 0} (found : Option A) (next : A → Option B) (answer : B) : Type 0 where
+pub record Found {A B : Type 0} (found : Option A) (next : A → Option B) (answer : B) : Type 0 where
   pub value : A
   pub is : found ≡ Some value
   pub then : next value ≡ Some answer
 
-step : {A B : Type 0} (found : Option A) (next : A → Option B) (answer : B) → found >>= next ≡ Some answer → Found found next answer
+pub step : {A B : Type 0} (found : Option A) (next : A → Option B) (answer : B) → found >>= next ≡ Some answer → Found found next answer
 step None next answer h = cc
 step (Some x) next answer h = record { value = x; is = refl; then = h }
 

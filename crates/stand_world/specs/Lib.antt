@@ -6,3 +6,6 @@ pub mod Objects
 pub mod Script
 pub mod Toy
 pub mod World
+pub mod WorldInside
+pub mod WorldState
+pub mod Written

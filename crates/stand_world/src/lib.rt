@@ -2,8 +2,8 @@
 //!
 //! [`build`] reads a script, and a [`World`] gives the rows for git and gpgv in memory. [`toy_status`] plays gpgv for the
 //! signatures of such worlds. `specs/Line.antt` says what a line declares, `specs/Script.antt` what a script does,
-//! `specs/Objects.antt` which objects a commit has, `specs/World.antt` what is answered, and `specs/Toy.antt` what the
-//! signatures are worth.
+//! `specs/Objects.antt` which objects a commit has, `specs/Written.antt` what is read back from a commit,
+//! `specs/World.antt` what is answered, and `specs/Toy.antt` what the signatures are worth.
 #![tactic(auto)]
 
 mod build_fail;

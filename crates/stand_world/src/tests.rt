@@ -1,8 +1,6 @@
 //! Worked scripts. The ids and fingerprints were computed by another program.
 use crate::{BuildFail, World, build, toy_status};
-use child_ports::{
-    Bytes, Fingerprint, GitRows, MemGit, MemSig, Names, Numbers, SigPort, is_name, rows_fit,
-};
+use child_ports::{Bytes, Fingerprint, MemGit, MemSig, Names, Numbers, SigPort, is_name, rows_fit};
 use commit_objects::{Commit, read_commit};
 use keyring_branch::{Keyring, read_keyring};
 use object_frames::{Fetched, Id, fetch};
@@ -39,16 +37,16 @@ committer Stand In <stand@example.org> 0 +0000
 i
 ";
 
-// Git in memory with these rows, which have to fit.
-fn git_with(rt: &impl Abort, alloc: Global, rows: GitRows) -> Result<MemGit, Fail> {
-    assert!(rt; rows_fit(&rows), "the rows fit");
+// Git in memory with the world's rows.
+fn git_in(alloc: Global, world: &World) -> Result<MemGit, Fail> {
+    let rows = world.git_rows(alloc)?;
     let git = MemGit::new(alloc, rows, Numbers::new(alloc), Numbers::new(alloc))?;
     Ok(git)
 }
 
 // The keyring that the world's branch gives.
 fn keyring_in(rt: &impl Abort, alloc: Global, world: &World) -> Result<Keyring, Fail> {
-    let mut git = git_with(rt, alloc, world.git_rows(alloc)?)?;
+    let mut git = git_in(alloc, world)?;
     let name = b"refs/heads/keyring^{tree}";
     assert!(rt; is_name(name));
     let mut names = Names::new(alloc);
@@ -205,7 +203,8 @@ fn git_has_the_last_commit_and_the_branches(rt: HostRuntime) -> Result<(), Fail>
     let rows = world.git_rows(alloc)?;
     // three trees, two commits with a file and one with two, the names of each commit, HEAD, a branch and the keyring
     assert_eq!(rt; rows.len(), 3 + 3 + 6 + 1 + 3 + 2 + 4);
-    let mut git = git_with(&rt, alloc, rows)?;
+    assert!(rt; rows_fit(&rows));
+    let mut git = git_in(alloc, &world)?;
     for (name, commit) in [
         ("HEAD^{commit}", "d"),
         ("master^{commit}", "c"),
@@ -234,7 +233,7 @@ fn said_of(alloc: Global, sig: &mut MemSig, commit: &Commit) -> Result<Bytes, Fa
 
 // What gpgv in memory says of the commit that stands under a name.
 fn verdict_on(rt: &impl Abort, alloc: Global, world: &World, name: &str) -> Result<Bytes, Fail> {
-    let mut git = git_with(rt, alloc, world.git_rows(alloc)?)?;
+    let mut git = git_in(alloc, world)?;
     let mut sig = MemSig::new(alloc, world.sig_rows(alloc)?, Numbers::new(alloc))?;
     let keyring = keyring_in(rt, alloc, world)?;
     sig.load(keyring.bytes.as_slice())?;

@@ -1,7 +1,10 @@
 //! The world of a script.
 ghost use Rattle.std.specs.Prelude.{◌≡◌, IfOk};
+ghost use Rattle.std.specs.List.{AllByRecursion};
+ghost use Rattle.child_ports.specs.Framed.{RowFits};
 ghost use Rattle.stand_world.specs.Script.{ended, declared_by};
 ghost use Rattle.stand_world.specs.World.{world_of, Gives, id_of, print_of, git_rows, sig_rows};
+ghost use Rattle.stand_world.specs.Written.{IsWritten};
 
 use crate::BuildFail;
 use crate::declared::{Declared, find_commit, find_key};
@@ -12,12 +15,25 @@ use byte_cuts::cut_at;
 use child_ports::{Fingerprint, GitRows, SigRows, Text};
 use object_frames::Id;
 use std::alloc::{AllocError, Global};
+use std::marker::Model;
 
 /// What a script declares, in a directory.
 #[derive(Debug, Drop)]
 pub struct World {
     dir: Text,
     declared: Declared,
+}
+
+impl Model for World {
+    ghost use Rattle.stand_world.specs.WorldState.{WorldState};
+
+    ghost Value = { WorldState };
+
+    ghost use Rattle.stand_world.specs.WorldInside.{world_state, IsFit};
+
+    ghost view = { world_state };
+
+    ghost invariant = { IsFit };
 }
 
 // The end of a script: nothing may be left without its line feed, and a commit has to be there.
@@ -55,6 +71,8 @@ fn read_script(alloc: Global, script: &[u8]) -> Result<Declared, BuildFail>
 pub fn build(alloc: Global, script: &[u8], dir: &str) -> Result<World, BuildFail>
     // Unless memory is wanting, it is the world of what the lines declare, or the first line at fault.
     ensures exact { Gives result (world_of script.now dir.now) }
+    // Reading a commit gives its tree, its signature and what is signed.
+    ensures written { IfOk result (λ world. AllByRecursion IsWritten world.declared.commits) }
 {
     let declared = read_script(alloc, script)?;
     let mut text = Text::new(alloc);
@@ -84,7 +102,9 @@ impl World {
 
     /// What git answers: each commit and its objects by their ids, HEAD, the branches, and the keyring's branch.
     pub fn git_rows(&self, alloc: Global) -> Result<GitRows, AllocError>
-        ensures { IfOk result (λ rows. rows ≡ git_rows self.now) }
+        ensures rows { IfOk result (λ rows. rows ≡ git_rows self.now) }
+        // They can stand for git's answers.
+        ensures fits { IfOk result (λ rows. AllByRecursion RowFits rows) }
     {
         git_rows_of(alloc, self.dir.as_str(), &self.declared)
     }

@@ -1,35 +1,92 @@
-use Rattle.std.proofs.Common.{◌≡◌, inl, ◌∙◌, ap, [], Some, None, Ok, refl, codes}
+use Rattle.std.proofs.Common.{◌≡◌, ◌⊎◌, inl, ◌∙◌, ap, [], Some, None, Ok, refl, sym, subst, codes}
 use Rattle.std.specs.Prelude.{Option, Result}
 use Rattle.std.specs.declared.alloc.AllocError.{AllocError}
-use Rattle.guix_auth_cli.specs.declared.words.Command.{Command}
-use Rattle.guix_auth_cli.specs.declared.words.Command.TheVariants.{Help, Authenticate}
+use Rattle.child_ports.specs.Keeper.{Kept}
+use Rattle.child_ports.specs.KeySet.{Keys}
+use Rattle.auth_words.specs.declared.plan.Plan.{Plan}
+use Rattle.auth_words.specs.declared.plan.Command.{Command}
+use Rattle.auth_words.specs.declared.plan.Command.TheVariants.{Help, Authenticate}
+use Rattle.auth_words.specs.Words.{command_of}
 use Rattle.auth_report.specs.Parts.{line_of}
 use Rattle.guix_auth_cli.specs.declared.help.TheConstants.{HELP}
-use Rattle.guix_auth_cli.specs.Words.{command_of}
-use Rattle.guix_auth_cli.proofs.RunLemmas.{untouched, read_is, ran_plan, ran_at_once, ran_out_of_memory}
+use Rattle.guix_auth_cli.specs.Faults.{counts}
+use Rattle.guix_auth_cli.specs.Outside.{outside, historical_of, OfKeys, HasSoundCache, HasSoundOrNone}
+use Rattle.guix_auth_cli.specs.Run.{stored, sunk, KeepsOrStores, IsAuthenticFor, IsSoundOrNoneFor}
+use Rattle.guix_auth_cli.proofs.ShownLemmas.{untouched}
+use Rattle.guix_auth_cli.proofs.RunLemmas.{read_is, one_plan, ran, at_once, wants_memory, if_map, sound_behind}
 use Rattle.guix_auth_cli.proofs.running.run.Goals as goal
 
 pub returns-in-Ok-Some-Authenticate-clause-answer : goal.returns-in-Ok-Some-Authenticate-clause-answer
-returns-in-Ok-Some-Authenticate-clause-answer g c = λ git gpgv room out err.
-    let stated = read_is c.read_words.result (Some (Authenticate c.in-Ok-Some-Authenticate.plan)) (command_of c.args.words.now) c.read_words.ensures
+returns-in-Ok-Some-Authenticate-clause-answer g c = λ git gpgv keeper room out err sound.
+    let o = outside (g.G.GitPort.table c.args.git.now) (g.V.SigPort.table c.args.gpgv.now) (g.K.Keeper.kept c.args.keeper.now) in
+    let files = g.R.FileRoom.files c.args.room.now in
+    let plan = c.in-Ok-Some-Authenticate.plan in
+    let stated = read_is c.read_words.result (Some (Authenticate plan)) (command_of c.args.words.now) c.read_words.ensures.exact
     (c.in-Ok-Some-Authenticate.is ∙ ap (λ (x : Option Command). Ok x) (c.in-Ok-Some-Authenticate.field-0-is ∙ ap (λ (x : Command). Some x) c.in-Ok-Some-Authenticate.field-0-0-is)) in
-    ran_plan (g.G.GitPort.table c.args.git.now) (g.V.SigPort.table c.args.gpgv.now) (g.R.FileRoom.files c.args.room.now) c.args.words.now
-    (Some (Authenticate c.in-Ok-Some-Authenticate.plan)) _ _ _ _ _ _ _ _ _ _ _ _ _ stated (c.run_plan.ensures.answer git gpgv room err)
+    let own = subst (λ (command : Option Command). IsSoundOrNoneFor o files command) stated sound in
+    ran o files c.args.words.now _ _ _ _ _ _ _ _ _ _ (Some (Authenticate plan)) stated (c.run_plan.ensures.answer git gpgv keeper room out err own)
+
+pub returns-in-Ok-Some-Authenticate-clause-accepted : goal.returns-in-Ok-Some-Authenticate-clause-accepted
+returns-in-Ok-Some-Authenticate-clause-accepted g c = λ other is git gpgv keeper room sound zero.
+    let o = outside (g.G.GitPort.table c.args.git.now) (g.V.SigPort.table c.args.gpgv.now) (g.K.Keeper.kept c.args.keeper.now) in
+    let files = g.R.FileRoom.files c.args.room.now in
+    let plan = c.in-Ok-Some-Authenticate.plan in
+    let stated = read_is c.read_words.result (Some (Authenticate plan)) (command_of c.args.words.now) c.read_words.ensures.exact
+    (c.in-Ok-Some-Authenticate.is ∙ ap (λ (x : Option Command). Ok x) (c.in-Ok-Some-Authenticate.field-0-is ∙ ap (λ (x : Command). Some x) c.in-Ok-Some-Authenticate.field-0-0-is)) in
+    subst (λ (p : Plan). OfKeys files p (HasSoundOrNone o p) → IsAuthenticFor o files p) (one_plan c.args.words.now plan other stated is)
+    (λ own. c.run_plan.ensures.accepted git gpgv keeper room own zero) sound
+
+pub returns-in-Ok-Some-Authenticate-clause-complete : goal.returns-in-Ok-Some-Authenticate-clause-complete
+returns-in-Ok-Some-Authenticate-clause-complete g c = λ other is git gpgv keeper room sound auth.
+    let o = outside (g.G.GitPort.table c.args.git.now) (g.V.SigPort.table c.args.gpgv.now) (g.K.Keeper.kept c.args.keeper.now) in
+    let files = g.R.FileRoom.files c.args.room.now in
+    let plan = c.in-Ok-Some-Authenticate.plan in
+    let status = c.run_plan.result in
+    let stated = read_is c.read_words.result (Some (Authenticate plan)) (command_of c.args.words.now) c.read_words.ensures.exact
+    (c.in-Ok-Some-Authenticate.is ∙ ap (λ (x : Option Command). Ok x) (c.in-Ok-Some-Authenticate.field-0-is ∙ ap (λ (x : Command). Some x) c.in-Ok-Some-Authenticate.field-0-0-is)) in
+    subst (λ (p : Plan). OfKeys files p (HasSoundCache o p) → IsAuthenticFor o files p → (status ≡ 0) ⊎ (status ≡ 4) ⊎ (status ≡ 5) ⊎ (status ≡ 6)) (one_plan c.args.words.now plan other stated is)
+    (λ own has. c.run_plan.ensures.complete git gpgv keeper room own has) sound auth
+
+pub returns-in-Ok-Some-Authenticate-clause-keeps : goal.returns-in-Ok-Some-Authenticate-clause-keeps
+returns-in-Ok-Some-Authenticate-clause-keeps g c = λ other is git gpgv keeper after room.
+    let o = outside (g.G.GitPort.table c.args.git.now) (g.V.SigPort.table c.args.gpgv.now) (g.K.Keeper.kept c.args.keeper.now) in
+    let files = g.R.FileRoom.files c.args.room.now in
+    let later = g.K.Keeper.kept c.run_plan.new.keeper in
+    let plan = c.in-Ok-Some-Authenticate.plan in
+    let stated = read_is c.read_words.result (Some (Authenticate plan)) (command_of c.args.words.now) c.read_words.ensures.exact
+    (c.in-Ok-Some-Authenticate.is ∙ ap (λ (x : Option Command). Ok x) (c.in-Ok-Some-Authenticate.field-0-is ∙ ap (λ (x : Command). Some x) c.in-Ok-Some-Authenticate.field-0-0-is)) in
+    subst (λ (p : Plan). OfKeys files p (λ (keys : Keys). HasSoundOrNone o p keys → KeepsOrStores o p keys later)) (one_plan c.args.words.now plan other stated is)
+    (c.run_plan.ensures.keeps git gpgv keeper after room)
+
+pub returns-in-Ok-Some-Authenticate-clause-sound : goal.returns-in-Ok-Some-Authenticate-clause-sound
+returns-in-Ok-Some-Authenticate-clause-sound g c = λ other is git gpgv keeper after room.
+    let o = outside (g.G.GitPort.table c.args.git.now) (g.V.SigPort.table c.args.gpgv.now) (g.K.Keeper.kept c.args.keeper.now) in
+    let files = g.R.FileRoom.files c.args.room.now in
+    let later = g.K.Keeper.kept c.run_plan.new.keeper in
+    let plan = c.in-Ok-Some-Authenticate.plan in
+    let stated = read_is c.read_words.result (Some (Authenticate plan)) (command_of c.args.words.now) c.read_words.ensures.exact
+    (c.in-Ok-Some-Authenticate.is ∙ ap (λ (x : Option Command). Ok x) (c.in-Ok-Some-Authenticate.field-0-is ∙ ap (λ (x : Command). Some x) c.in-Ok-Some-Authenticate.field-0-0-is)) in
+    subst (λ (p : Plan). OfKeys files p (λ (keys : Keys). HasSoundCache o p keys → HasSoundCache (outside o.answers o.verdicts later) p keys)) (one_plan c.args.words.now plan other stated is)
+    (if_map (historical_of files plan) (λ (keys : Keys). HasSoundOrNone o plan keys → KeepsOrStores o plan keys later) (λ (keys : Keys). HasSoundCache o plan keys → HasSoundCache (outside o.answers o.verdicts later) plan keys)
+    (λ keys keeps. sound_behind o plan later keys keeps) (c.run_plan.ensures.keeps git gpgv keeper after room))
 
 pub returns-in-Ok-Some-Help-clause-answer : goal.returns-in-Ok-Some-Help-clause-answer
-returns-in-Ok-Some-Help-clause-answer g c = λ git gpgv room out err.
-    let stated = read_is c.read_words.result (Some Help) (command_of c.args.words.now) c.read_words.ensures
+returns-in-Ok-Some-Help-clause-answer g c = λ git gpgv keeper room out err sound.
+    let o = outside (g.G.GitPort.table c.args.git.now) (g.V.SigPort.table c.args.gpgv.now) (g.K.Keeper.kept c.args.keeper.now) in
+    let stated = read_is c.read_words.result (Some Help) (command_of c.args.words.now) c.read_words.ensures.exact
     (c.in-Ok-Some-Help.is ∙ ap (λ (x : Option Command). Ok x) (c.in-Ok-Some-Help.field-0-is ∙ ap (λ (x : Command). Some x) c.in-Ok-Some-Help.field-0-0-is)) in
-    ran_at_once (g.G.GitPort.table c.args.git.now) (g.V.SigPort.table c.args.gpgv.now) (g.R.FileRoom.files c.args.room.now) c.args.words.now
-    (Some Help) (record { status = 0; out = HELP.now; err = [] }) _ _ _ _ _ _ _ _ _ _ _ _ stated refl c.print_help.ensures.answer (c.print_help.ensures.put out) (untouched _ _)
+    at_once o (g.R.FileRoom.files c.args.room.now) c.args.words.now _ _ _ _ _ _ _ _ _ _ (Some Help) (record { status = 0; out = HELP.now; err = []; kept = o.kept }) stated refl
+    c.print.ensures.answer (c.print.ensures.put out) (untouched _ _) refl
 
 pub returns-in-Ok-None-clause-answer : goal.returns-in-Ok-None-clause-answer
-returns-in-Ok-None-clause-answer g c = λ git gpgv room out err.
-    let stated = read_is c.read_words.result None (command_of c.args.words.now) c.read_words.ensures
+returns-in-Ok-None-clause-answer g c = λ git gpgv keeper room out err sound.
+    let o = outside (g.G.GitPort.table c.args.git.now) (g.V.SigPort.table c.args.gpgv.now) (g.K.Keeper.kept c.args.keeper.now) in
+    let stated = read_is c.read_words.result None (command_of c.args.words.now) c.read_words.ensures.exact
     (c.in-Ok-None.is ∙ ap (λ (x : Option Command). Ok x) c.in-Ok-None.field-0-is) in
-    ran_at_once (g.G.GitPort.table c.args.git.now) (g.V.SigPort.table c.args.gpgv.now) (g.R.FileRoom.files c.args.room.now) c.args.words.now
-    None (record { status = 2; out = []; err = line_of (codes "bad words; see guix-auth --help") }) _ _ _ _ _ _ _ _ _ _ _ _ stated refl (inl c.tell.ensures.status) (untouched _ _) (c.tell.ensures.put err)
+    at_once o (g.R.FileRoom.files c.args.room.now) c.args.words.now _ _ _ _ _ _ _ _ _ _ None (record { status = 2; out = []; err = line_of (codes "bad words; see guix-auth --help"); kept = o.kept }) stated refl
+    (inl c.tell.ensures.status) (untouched _ _) (c.tell.ensures.put err) refl
 
 pub returns-in-Err-clause-answer : goal.returns-in-Err-clause-answer
-returns-in-Err-clause-answer g c = λ git gpgv room out err.
-    ran_out_of_memory _ _ _ _ _ _ _ _ _ _ _ _ c.tell-in-Err.ensures.status (c.tell-in-Err.ensures.put err)
+returns-in-Err-clause-answer g c = λ git gpgv keeper room out err sound.
+    let o = outside (g.G.GitPort.table c.args.git.now) (g.V.SigPort.table c.args.gpgv.now) (g.K.Keeper.kept c.args.keeper.now) in
+    wants_memory o (g.R.FileRoom.files c.args.room.now) c.args.words.now _ _ _ _ _ _ _ _ _ c.tell-in-Err.ensures.status refl (c.tell-in-Err.ensures.put err)

@@ -1,0 +1,16 @@
+pub mod AgainLemmas
+pub mod AskedLemmas
+pub mod CountingLemmas
+pub mod DistinctLemmas
+pub mod GrowthLemmas
+pub mod JudgingLemmas
+pub mod JudgingRows
+pub mod LimitLemmas
+pub mod NewLemmas
+pub mod OutcomeLemmas
+pub mod RelatingLemmas
+pub mod ScopingLemmas
+pub mod SeriesLemmas
+pub mod SeriesRows
+pub mod StoredLemmas
+pub mod TallyRows

@@ -1,0 +1,14 @@
+pub mod Answers
+pub mod Asked
+pub mod Authentic
+pub mod Counting
+pub mod Growth
+pub mod Judging
+pub mod Limits
+pub mod Outcome
+pub mod Reading
+pub mod Series
+pub mod SoundCache
+pub mod Starting
+pub mod Steps
+pub mod Tally

@@ -1,9 +1,0 @@
-pub mod CountingLemmas
-pub mod DistinctLemmas
-pub mod JudgingLemmas
-pub mod JudgingRows
-pub mod NewLemmas
-pub mod OutcomeLemmas
-pub mod RelatingLemmas
-pub mod ScopingLemmas
-pub mod TallyRows

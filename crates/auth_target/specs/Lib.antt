@@ -1,9 +1,0 @@
-pub mod Answers
-pub mod Authentic
-pub mod Counting
-pub mod Judging
-pub mod Outcome
-pub mod Reading
-pub mod Starting
-pub mod Steps
-pub mod Tally

@@ -1,0 +1,13 @@
+pub mod AppLemmas
+pub mod ChangeLemmas
+pub mod DoomLemmas
+pub mod FitLemmas
+pub mod GivenLemmas
+pub mod MatchLemmas
+pub mod PlanLemmas
+pub mod RowLemmas
+pub mod SameLemmas
+pub mod ShapeLemmas
+pub mod TakenLemmas
+pub mod TurnLemmas
+pub mod WalkLemmas

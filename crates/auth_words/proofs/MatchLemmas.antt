@@ -1,0 +1,58 @@
+-- Matches and their plan.
+use Rattle.std.proofs.Common.{◌≡◌, ◌≢◌, ◌<◌, ◌+◌, ◌++◌, ℕ, length, take, get_or, map, subst, true, List, [], ◌∷◌, codes, refl, sym, ap, ◌∙◌, Option, Some, None, inl, inr}
+use Rattle.std.specs.Borrow.{Bor}
+use Rattle.std.specs.List.{All}
+use Rattle.std.specs.Str.{IsUtf8}
+use Rattle.std.proofs.lemmas.List.{map-append, take_more}
+use Rattle.std.proofs.lemmas.List.Elements.{All-push}
+use Rattle.clap.specs.Words.{Kinds, Row, Text, HasKind, first_of, is_simple, is_simple_and_free, kind_of}
+use Rattle.clap.specs.declared.error.Error.{Error}
+use Rattle.clap.specs.declared.error.kind.ErrorKind.TheVariants as kind
+use Rattle.clap.proofs.OnLiterals.{clap_on_literals}
+use Rattle.auth_words.specs.declared.plan.Plan.{Plan}
+use Rattle.auth_words.specs.App.{auth_app, options_app}
+use Rattle.auth_words.specs.Words.{Options, plan_of_two}
+use Rattle.auth_words.specs.GivenInside.{Gives, IsPlanOf}
+
+pub simple : is_simple auth_app ≡ true
+unfolding auth_app options_app clap_on_literals
+simple = refl
+
+pub free : is_simple_and_free auth_app ≡ true
+unfolding auth_app options_app clap_on_literals
+free = refl
+
+-- an error of another kind than want of memory comes with a fault
+pub at_fault : (k : Kinds) (e : Error) → HasKind k e → kind_of e ≢ kind.OutOfMemory → k ≢ []
+at_fault [] e (inl h) other is = other h
+at_fault [] e (inr h) other is = h
+at_fault (x ∷ xs) e h other is = cc is
+
+pub no_commit : (rows : List Row) → first_of (codes "commit") rows ≡ None → IsPlanOf rows None
+no_commit rows e commit signer o is_commit is_signer unique = cc (sym e ∙ is_commit)
+
+pub no_signer : (rows : List Row) → first_of (codes "signer") rows ≡ None → IsPlanOf rows None
+no_signer rows e commit signer o is_commit is_signer unique = cc (sym e ∙ is_signer)
+
+pub is_plan : (rows : List Row) (a b : Text) (x : Options) (plan : Option Plan) → first_of (codes "commit") rows ≡ Some a → first_of (codes "signer") rows ≡ Some b
+    → Gives rows x → plan ≡ plan_of_two a b x → IsPlanOf rows plan
+is_plan rows a b x plan p q gives e commit signer o is_commit is_signer unique =
+    let same_commit : a ≡ commit = cc (sym p ∙ is_commit) in
+    let same_signer : b ≡ signer = cc (sym q ∙ is_signer) in
+    e ∙ ap (λ w. plan_of_two w b x) same_commit ∙ ap (λ w. plan_of_two commit w x) same_signer ∙ ap (λ w. plan_of_two commit signer w) (unique x gives)
+
+-- ---- the texts of words
+
+abbrev texts : List (Bor Text) → List Text
+texts items = map (λ s. s.now) items
+
+one_more : (items new : List (Bor Text)) (s : Bor Text) → new ≡ items ++ s ∷ [] → texts new ≡ texts items ++ s.now ∷ []
+one_more items new s e = ap texts e ∙ map-append (λ s. s.now) items (s ∷ [])
+
+pub more_texts : (items new : List (Bor Text)) (s : Bor Text) (words : List Text) (i : ℕ) (w : Text) → new ≡ items ++ s ∷ [] → texts items ≡ take i words
+    → i < length words → w ≡ get_or words i w → s.now ≡ w → texts new ≡ take (i + 1) words
+more_texts items new s words i w e so_far lt is same =
+    one_more items new s e ∙ ap (λ l. l ++ s.now ∷ []) so_far ∙ ap (λ x. take i words ++ x ∷ []) (same ∙ is) ∙ sym (take_more words i w lt)
+
+pub more_utf8 : (items new : List (Bor Text)) (s : Bor Text) → new ≡ items ++ s ∷ [] → All IsUtf8 (texts items) → IsUtf8 s.now → All IsUtf8 (texts new)
+more_utf8 items new s e all text = subst (λ (l : List Text). All IsUtf8 l) (sym (one_more items new s e)) (All-push IsUtf8 (texts items) s.now all text)

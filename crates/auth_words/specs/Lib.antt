@@ -1,0 +1,6 @@
+pub mod App
+pub mod Arguments
+pub mod Form
+pub mod GivenInside
+pub mod Limits
+pub mod Words

@@ -1,0 +1,35 @@
+//! The files of the system as a room.
+ghost use Rattle.std.specs.Prelude.{false};
+ghost use Rattle.std.specs.FinMap as fin;
+
+use crate::counting::counted;
+use crate::file_front::read_front;
+use child_ports::{Bytes, FileRoom, PortFail};
+use std::alloc::Global;
+use std::rt::Files;
+
+/// The files of the system. Of a longer file it gives the first 67,108,865 bytes.
+#[derive(Drop)]
+pub struct RealRoom<R: Files + AllocGlobal + Drop> {
+    rt: R,
+    faults: u64,
+}
+
+impl<R: Files + AllocGlobal + Drop> RealRoom<R> {
+    /// A room whose files are opened by this runtime.
+    pub fn new(rt: R) -> RealRoom<R> {
+        RealRoom { rt, faults: 0 }
+    }
+}
+
+impl<R: Files + AllocGlobal + Drop> FileRoom for RealRoom<R> {
+    ghost faults = { λ room. room.faults };
+
+    ghost tells = { λ _. false };
+
+    ghost files = { λ _. fin.empty };
+
+    fn read(&mut self, alloc: Global, path: &str) -> Result<Option<Bytes>, PortFail> {
+        counted(read_front(&self.rt, alloc, path), &mut self.faults)
+    }
+}
