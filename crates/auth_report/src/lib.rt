@@ -11,6 +11,8 @@ mod parts;
 mod refusals;
 mod rings;
 mod tallies;
+#[cfg(test)]
+mod tests;
 mod whats;
 
 pub use files::{FileFail, file_refusal};

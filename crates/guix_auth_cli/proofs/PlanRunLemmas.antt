@@ -1,6 +1,6 @@
 -- A run of a plan: its file, and then its task.
 use Rattle.std.proofs.Common.{◌≡◌, ◌≢◌, ◌⊎◌, inl, inr, ℕ, List, Option, Some, None, option_map, Result, Ok, Err, refl, sym, ap, ◌∙◌, subst, arith}
-use Rattle.std.specs.Prelude.{IfOk, IfErr, MatchResult}
+use Rattle.std.specs.Prelude.{IfOk, IfErr, IsOk, MatchResult}
 use Rattle.child_ports.specs.Causes.{Rose, Stayed}
 use Rattle.child_ports.specs.Keeper.{Kept}
 use Rattle.child_ports.specs.KeySet.{Keys}
@@ -15,7 +15,7 @@ use Rattle.guix_auth_cli.specs.Answers.{Answer, refused, file_refused, file_unre
 use Rattle.guix_auth_cli.specs.Faults.{Counts}
 use Rattle.guix_auth_cli.specs.Historical.{keys_at}
 use Rattle.guix_auth_cli.specs.Outside.{Outside, task_for, keys_named, historical_of, OfKeys}
-use Rattle.guix_auth_cli.specs.Run.{Sunk, Stored, Shows, stored, IsItOrStopped, IsItOrUnread, IsAuthenticFor, TellsNone, TellsNoKeys, AsksAsTold, AsksNothing, AsksFor}
+use Rattle.guix_auth_cli.specs.Run.{Sunk, Stored, Shows, stored, IsItOrStopped, IsItOrUnread, IsAuthenticFor, TellsNone, TellsNoKeys, AsksAsTold, StopsUnasked, AsksFor}
 use Rattle.guix_auth_cli.specs.Shown.{IsPut}
 use Rattle.guix_auth_cli.proofs.ShownLemmas.{untouched}
 use Rattle.guix_auth_cli.proofs.StoringLemmas.{stop_shown}
@@ -50,15 +50,20 @@ module _ (o : Outside) (files : Kept) (plan : Plan) where
 
     pub task_asks : (status before now : ℕ) → AsksAsTold o plan keys status before now → AsksFor o files plan status before now
     task_asks status before now asks =
-        subst (λ (r : Result Keys FileFail). MatchResult r (λ keys. AsksAsTold o plan keys status before now ⊎ AsksNothing status before now) (λ fail. AsksNothing status before now)) (sym is) (inl asks)
+        subst (λ (r : Result Keys FileFail). MatchResult r (λ keys. AsksAsTold o plan keys status before now ⊎ StopsUnasked status before now) (λ fail. ((now ≡ before) × (status ≡ 3)) ⊎ StopsUnasked status before now)) (sym is) (inl asks)
 
   -- ---- it gave none
-  pub no_asks : (status before now : ℕ) → now ≡ before → status ≢ 0 → AsksFor o files plan status before now
-  no_asks status before now same other = by_keys (historical_of files plan)
+  pub no_asks : (status before now : ℕ) → now ≡ before → (IsOk (historical_of files plan) → (status ≡ 5) ⊎ (status ≡ 6)) → (status ≡ 3) ⊎ (status ≡ 5) ⊎ (status ≡ 6)
+      → AsksFor o files plan status before now
+  no_asks status before now same given own = by_keys (historical_of files plan) given
     where
-      by_keys : (r : Result Keys FileFail) → MatchResult r (λ keys. AsksAsTold o plan keys status before now ⊎ AsksNothing status before now) (λ fail. AsksNothing status before now)
-      by_keys (Ok keys) = inr (same, other)
-      by_keys (Err fail) = (same, other)
+      by_keys : (r : Result Keys FileFail) → (IsOk r → (status ≡ 5) ⊎ (status ≡ 6))
+          → MatchResult r (λ keys. AsksAsTold o plan keys status before now ⊎ StopsUnasked status before now) (λ fail. ((now ≡ before) × (status ≡ 3)) ⊎ StopsUnasked status before now)
+      by_keys (Ok keys) stops = inr (same, stops refl)
+      by_keys (Err fail) stops = elim own [
+        | inl three ↦ inl (same, three)
+        | inr later ↦ inr (same, later)
+      ]
 
   module _ (status : ℕ) (before now : Counts) (room room' : ℕ) (store' : Stored) (out err err' : Sunk) (keeps : store'.kept ≡ o.kept) where
     abbrev Untold : Answer → Type 0

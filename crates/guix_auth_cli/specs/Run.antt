@@ -1,5 +1,5 @@
 -- What a run of `authenticate` comes to, and how a run ends.
-use Rattle.std.specs.Prelude.{◌≡◌, ◌≢◌, ◌⊎◌, ℕ, Bool, false, nat_eq, List, Option, Some, None, Result, Ok, Err, MatchResult}
+use Rattle.std.specs.Prelude.{◌≡◌, ◌⊎◌, ℕ, Bool, true, false, nat_eq, List, Option, Some, None, Result, Ok, Err, MatchResult}
 use Rattle.child_ports.specs.Causes.{Rose, Stayed}
 use Rattle.child_ports.specs.Keeper.{Kept}
 use Rattle.child_ports.specs.KeySet.{Keys}
@@ -90,15 +90,15 @@ abbrev pub AsksAsTold : Outside → Plan → Keys → ℕ → ℕ → ℕ → Ty
 AsksAsTold o plan keys status before now = (found : Result Verdict EngineFail)
     × Asks o.answers o.verdicts (task_for plan keys) (cache_in o.kept plan) found before now × Tells found status
 
--- it wasn't asked where the check didn't begin
-abbrev pub AsksNothing : ℕ → ℕ → ℕ → Type 0
-AsksNothing status before now = (now ≡ before) × (status ≢ 0)
+-- it wasn't asked, since the file of the plan couldn't be read or memory was wanting
+abbrev pub StopsUnasked : ℕ → ℕ → ℕ → Type 0
+StopsUnasked status before now = (now ≡ before) × ((status ≡ 5) ⊎ (status ≡ 6))
 
 -- the questions of a run, by what the file of its plan gives
 abbrev pub AsksFor : Outside → Kept → Plan → ℕ → ℕ → ℕ → Type 0
 AsksFor o files plan status before now = MatchResult (historical_of files plan)
-    (λ keys. AsksAsTold o plan keys status before now ⊎ AsksNothing status before now)
-    (λ fail. AsksNothing status before now)
+    (λ keys. AsksAsTold o plan keys status before now ⊎ StopsUnasked status before now)
+    (λ fail. ((now ≡ before) × (status ≡ 3)) ⊎ StopsUnasked status before now)
 
 -- the target of a plan is authentic under the historical keys that its file gives
 abbrev pub IsAuthenticFor : Outside → Kept → Plan → Type 0
@@ -108,3 +108,8 @@ IsAuthenticFor o files plan = (keys : Keys) × (historical_of files plan ≡ Ok 
 abbrev pub IsSoundOrNoneFor : Outside → Kept → Option Command → Type 0
 IsSoundOrNoneFor o files (Some (Authenticate plan)) = OfKeys files plan (HasSoundOrNone o plan)
 IsSoundOrNoneFor o files _ = Unit {0}
+
+-- a command asks for a target to be checked
+abbrev pub asks_for_check : Option Command → Bool
+asks_for_check (Some (Authenticate plan)) = true
+asks_for_check _ = false

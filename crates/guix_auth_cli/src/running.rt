@@ -1,5 +1,5 @@
 //! The top call.
-ghost use Rattle.std.specs.Prelude.{◌≡◌, ◌≢◌, ◌⊎◌, Some, IsTrue, MatchOption};
+ghost use Rattle.std.specs.Prelude.{◌≡◌, ◌≢◌, ◌⊎◌, Some, IsTrue, MatchOption, false};
 ghost use Rattle.child_ports.specs.Causes.{Stayed};
 ghost use Rattle.auth_engine.specs.Outcome.{HasAuthenticTarget};
 ghost use Rattle.auth_words.specs.declared.plan.Plan.{Plan};
@@ -8,7 +8,7 @@ ghost use Rattle.auth_words.specs.Words.{IsFitting, command_of};
 ghost use Rattle.guix_auth_cli.specs.Answers.{Answer, IsDue, IsAnswerBy, IsAnswerOf, unread_by};
 ghost use Rattle.guix_auth_cli.specs.Faults.{counts, IsChildFault, IsStoreFault, IsOtherFault};
 ghost use Rattle.guix_auth_cli.specs.Outside.{outside, task_for, OfKeys, HasSoundCache, HasSoundOrNone};
-ghost use Rattle.guix_auth_cli.specs.Run.{stored, sunk, Shows, IsItOrStopped, IsItOrUnread, KeepsOrStores, AsksAsTold, AsksFor, IsAuthenticFor, IsSoundOrNoneFor};
+ghost use Rattle.guix_auth_cli.specs.Run.{stored, sunk, Shows, IsItOrStopped, IsItOrUnread, KeepsOrStores, AsksAsTold, AsksFor, IsAuthenticFor, IsSoundOrNoneFor, asks_for_check};
 
 use crate::help::HELP;
 use crate::historical::historical_keys;
@@ -195,6 +195,10 @@ pub fn run<G: GitPort, V: SigPort, K: Keeper, R: FileRoom, O: Sink, E: Sink>(
     ensures asked { (plan : Plan) → command_of words.now ≡ Some (Authenticate plan) →
         IsTrue (G.tells git.old) → IsTrue (V.tells gpgv.old) → IsTrue (K.tells keeper.old) → IsTrue (R.tells room.old) →
         AsksFor (outside (G.table git.old) (V.table gpgv.old) (K.kept keeper.old)) (R.files room.old) plan result (V.asked gpgv.old) (V.asked gpgv.new) }
+
+    // Words that ask for no check are answered before any port is called.
+    ensures words_first { asks_for_check (command_of words.now) ≡ false →
+        (git.new ≡ git.old) × (gpgv.new ≡ gpgv.old) × (keeper.new ≡ keeper.old) × (room.new ≡ room.old) }
 
     ensures git_told { G.tells git.new ≡ G.tells git.old }
     ensures git_table { G.table git.new ≡ G.table git.old }

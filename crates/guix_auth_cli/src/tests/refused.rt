@@ -1,5 +1,5 @@
 //! Targets that are refused, each with the line that names the commit and the cause.
-use crate::tests::scripted::{Want, check_script, world_of};
+use crate::tests::scripted::{Outside, WELL, Want, check, check_script, empty_keeper, world_of};
 use std::test::Fail;
 
 const AUTH: &str = "authenticate <i> <key a>";
@@ -146,5 +146,25 @@ fn of_two_refused_commits_of_one_generation_the_lesser_id_is_named(
         "guix-auth: commit <y> is refused: its signer <key b> is not authorised by every parent\n"
     };
     check_script(&rt, rt.alloc(), script, "", AUTH, refused(err, 2))?;
+    Ok(())
+}
+
+#[test]
+fn the_lost_file_of_a_parent_is_named_with_its_child(rt: HostRuntime) -> Result<(), Fail> {
+    let alloc = rt.alloc();
+    let script =
+        "key a\nkey b\nkey c\ncommit i - a a,b,c\ncommit p i a a,b\ncommit q i a b,c\ncommit m p,q b b\n";
+    let world = world_of(&rt, alloc, script);
+    let mut keeper = empty_keeper(alloc, 0)?;
+    // the blob of the file of p
+    let outside = Outside {
+        lost: "81f43db00d8995c2584423644ea1a314a018222c",
+        ..WELL
+    };
+    let want = refused(
+        "guix-auth: commit <m> is refused: object 81f43db00d8995c2584423644ea1a314a018222c: missing\n",
+        3,
+    );
+    check(&rt, alloc, &world, "", &mut keeper, outside, AUTH, want)?;
     Ok(())
 }

@@ -1,8 +1,8 @@
 //! A history of a script, runs over it, and what they are compared with.
 use crate::running::run;
 use child_ports::{
-    Bytes, Fingerprint, Keeper, MemGit, MemKeeper, MemRoom, MemSig, MemSink, Numbers, Pair, Pairs,
-    Text, Words, rows_fit,
+    Bytes, Fingerprint, GitRows, Keeper, MemGit, MemKeeper, MemRoom, MemSig, MemSink, Numbers,
+    Pair, Pairs, Text, Words, rows_fit,
 };
 use object_frames::Id;
 use stand_world::{World, build};
@@ -11,21 +11,23 @@ use std::process::Abort;
 use std::str;
 use std::test::Fail;
 
-/// What ports do in a run: the numbers of the calls that fail, and the room of standard output.
+/// What ports do in a run: the numbers of the calls that fail, the room of standard output, and the name that git has lost.
 #[derive(Clone, Copy, Debug)]
 pub struct Outside {
     pub git_fails: u64,
     pub gpgv_fails: u64,
     pub out_room: usize,
     pub err_fails: u64,
+    pub lost: &'static str,
 }
 
-/// No call fails.
+/// No call fails, and nothing is lost.
 pub const WELL: Outside = Outside {
     git_fails: 0,
     gpgv_fails: 0,
     out_room: 65_536,
     err_fails: 0,
+    lost: "",
 };
 
 /// What a run is to show. Texts have `<c>` for the id of commit c, `<key a>` for the fingerprint of key a.
@@ -169,8 +171,25 @@ fn room_of(
     MemRoom::new(alloc, &files, Numbers::new(alloc))
 }
 
-fn git_of(rt: &impl Abort, alloc: Global, world: &World, fails: u64) -> Result<MemGit, AllocError> {
-    let rows = world.git_rows(alloc)?;
+// The world's answers, but for that to a name.
+fn rows_without(alloc: Global, world: &World, lost: &str) -> Result<GitRows, AllocError> {
+    let mut rows = GitRows::new(alloc);
+    for row in world.git_rows(alloc)?.into_vec() {
+        if row.name.as_slice() != lost.as_bytes() {
+            rows.push(row)?;
+        }
+    }
+    Ok(rows)
+}
+
+fn git_of(
+    rt: &impl Abort,
+    alloc: Global,
+    world: &World,
+    fails: u64,
+    lost: &str,
+) -> Result<MemGit, AllocError> {
+    let rows = rows_without(alloc, world, lost)?;
     assert!(rt; rows_fit(&rows));
     MemGit::new(alloc, rows, only(alloc, fails)?, Numbers::new(alloc))
 }
@@ -203,7 +222,7 @@ fn ports_of(
     file: &str,
     outside: Outside,
 ) -> Result<Ports, AllocError> {
-    let git = git_of(rt, alloc, world, outside.git_fails)?;
+    let git = git_of(rt, alloc, world, outside.git_fails, outside.lost)?;
     let gpgv = gpgv_of(alloc, world, outside.gpgv_fails)?;
     let room = room_of(rt, alloc, world, file)?;
     let out = sink_of(alloc, outside.out_room, 0)?;

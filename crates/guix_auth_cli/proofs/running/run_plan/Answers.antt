@@ -6,7 +6,7 @@ use Rattle.guix_auth_cli.specs.Answers.{Answer, IsDue}
 use Rattle.guix_auth_cli.specs.Faults.{counts}
 use Rattle.guix_auth_cli.specs.Outside.{outside, historical_of, HasSoundOrNone, HasSoundCache}
 use Rattle.guix_auth_cli.specs.Run.{stored, sunk, IsItOrStopped, Shows, KeepsOrStores}
-use Rattle.guix_auth_cli.proofs.PlanRunLemmas.{if_at, if_from, task_answers, task_complete, no_keys_shown}
+use Rattle.guix_auth_cli.proofs.PlanRunLemmas.{if_at, if_from, task_answers, task_complete, no_asks, no_keys_shown}
 use Rattle.guix_auth_cli.proofs.running.run_plan.Goals as goal
 
 pub returns-in-Ok-clause-answer : goal.returns-in-Ok-clause-answer
@@ -71,3 +71,8 @@ returns-in-Err-clause-complete g c = λ git gpgv keeper room sound auth.
       | inl e ↦ inr (inr (inl e))
       | inr e ↦ inr (inr (inr e))
     ]
+
+pub returns-in-Err-clause-asked : goal.returns-in-Err-clause-asked
+returns-in-Err-clause-asked g c = λ git gpgv keeper room.
+    let o = outside (g.G.GitPort.table c.args.git.now) (g.V.SigPort.table c.args.gpgv.now) (g.K.Keeper.kept c.args.keeper.now) in
+    no_asks o (g.R.FileRoom.files c.args.room.now) c.args.plan.now c.in-Err.status _ _ refl (c.in-Err.ensures.given room) c.in-Err.ensures.status

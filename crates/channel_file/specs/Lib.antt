@@ -1,0 +1,11 @@
+pub mod Names
+pub mod Elements
+pub mod Fields
+pub mod Reading
+pub mod ReadingInside
+pub mod Introductions
+pub mod Judging
+pub mod Channels
+pub mod Dependencies
+pub mod Metadata
+pub mod Limits
