@@ -4,6 +4,7 @@ use Rattle.std.specs.Prelude.{All, AllPairs, Contains, MatchResult}
 use Rattle.std.specs.Result.{result_map_both}
 use Rattle.child_ports.specs.declared.git.GitRow.{GitRow}
 use Rattle.child_ports.specs.declared.sig.SigRow.{SigRow}
+use Rattle.child_ports.specs.Causes.{AtMostOnce}
 use Rattle.child_ports.specs.KeySet.{Keys}
 use Rattle.child_ports.specs.declared.fingerprint.Fingerprint.{Fingerprint}
 use Rattle.authorizations.specs.declared.scope.Scope.{Scope}
@@ -12,7 +13,7 @@ use Rattle.commit_graph.specs.Covers.{Parenthood, IsCovered, AreUncovered}
 use Rattle.commit_graph.specs.Chains.{Reaches}
 use Rattle.commit_graph.specs.History.{Commits, History, IsParent}
 use Rattle.auth_rules.specs.declared.cause.Cause.{Cause}
-use Rattle.auth_rules.specs.Answers.{is_intro_asked, AskedWhen, AskedOnce}
+use Rattle.auth_rules.specs.Answers.{is_intro_asked, AskedWhen}
 use Rattle.auth_rules.specs.Rules.{first, root_fault, unsigned, signature_cause, judged_of, has_file, intro_cause}
 use Rattle.auth_rules.specs.World.{World, Id}
 use Rattle.commit_history.specs.declared.fail.HistoryFail.{HistoryFail}
@@ -46,18 +47,18 @@ module _ (P : Parenthood) (target intro : Id) (entries : List Id) where
       length-le_distinct one other pairs all
 
   -- what is said of some list is said of every one
-  pub some_at_most : (before mid now : ℕ) → AskedOnce before mid → AsksSome P target intro entries mid now → AsksAtMost P target intro entries before now
+  pub some_at_most : (before mid now : ℕ) → AtMostOnce before mid → AsksSome P target intro entries mid now → AsksAtMost P target intro entries before now
   some_at_most before mid now once (inl same) = λ commits new. (omega (arith, once, same), omega (arith, once, same))
   some_at_most before mid now once (inr some) = λ commits new.
       let count = uncovered_count some.0 commits some.1 new in
       (omega (arith, once, some.2), omega (arith, once, some.2, count))
 
-  pub at_most_one : (before now : ℕ) → AskedOnce before now → AsksAtMost P target intro entries before now
+  pub at_most_one : (before now : ℕ) → AtMostOnce before now → AsksAtMost P target intro entries before now
   at_most_one before now once = some_at_most before now now once (inl refl)
 
 -- ---- no question
 
-same_once : (before now : ℕ) → now ≡ before → AskedOnce before now
+same_once : (before now : ℕ) → now ≡ before → AtMostOnce before now
 same_once before now same = (omega arith, omega arith)
 
 module _ (w : World) (task : Task) (start : Start) (entries : List Id) (before now : ℕ) where
@@ -176,7 +177,7 @@ intro_refused_asks w i before now asked = as_more (is_intro_asked w i) before no
 
 -- an introduction that isn't accepted
 pub intro_asks_for : (w : World) (task : Task) (start : Start) (entries : List Id) (keys : Keys) (fail : EngineFail) (before now : ℕ)
-    → JudgesIntro {T = Unit {0}} w (scope_of task start.ring) keys (Err fail) → AsksIntro {T = Unit {0}} w task.intro (Err fail) before now → AskedOnce before now
+    → JudgesIntro {T = Unit {0}} w (scope_of task start.ring) keys (Err fail) → AsksIntro {T = Unit {0}} w task.intro (Err fail) before now → AtMostOnce before now
     → AsksFor w task start entries (Err fail) before now
 intro_asks_for w task start entries keys (Intro id why) before now judges asks once = asks
 intro_asks_for w task start entries keys GitFault before now judges asks once = at_most_one (history w) start.target task.intro entries before now once
@@ -247,7 +248,7 @@ stop_asks_new w P target intro entries before now (Commit id why) stop same = ab
 summed : (n before mid now : ℕ) → mid ≡ more 1 before → now ≡ more n mid → now ≡ more (1 + n) before
 summed n before mid now h k = omega arith
 
-one_once : (before mid : ℕ) → mid ≡ more 1 before → AskedOnce before mid
+one_once : (before mid : ℕ) → mid ≡ more 1 before → AtMostOnce before mid
 one_once before mid h = (omega arith, omega arith)
 
 module _ (w : World) (task : Task) (start : Start) (entries : List Id) (graph : History) (holds : HoldsHistory w start.target task.intro graph) (before mid now : ℕ) (intro : mid ≡ more 1 before) where

@@ -7,7 +7,6 @@ ghost use Rattle.auth_engine.specs.Asked.{Asks};
 ghost use Rattle.auth_engine.specs.Limits.{task_fits};
 ghost use Rattle.auth_engine.specs.Outcome.{HasAuthenticTarget, IsOutcome};
 ghost use Rattle.auth_engine.specs.SoundCache.{IsSoundCache, IsSoundOrNone};
-ghost use Rattle.auth_engine.specs.Steps.{engine_fail};
 
 use crate::caching::load_entries;
 use crate::deciding::decide;
@@ -15,21 +14,8 @@ use crate::scoping::make_scope;
 use crate::starting::find_start;
 use crate::{EngineFail, Task, Verdict};
 use child_ports::{GitPort, Keeper, SigPort};
-use commit_history::{HistoryFail, read_history};
+use commit_history::read_history;
 use std::alloc::Global;
-
-// Why the history can't be judged, as a refusal of the target.
-fn engine_fail(fail: HistoryFail) -> EngineFail
-    ensures { result ≡ engine_fail fail }
-{
-    match fail {
-        HistoryFail::TooMany => EngineFail::TooMany,
-        HistoryFail::Object { id, what } => EngineFail::Object { id, what },
-        HistoryFail::Cycle(id) => EngineFail::Cycle(id),
-        HistoryFail::GitFault => EngineFail::GitFault,
-        HistoryFail::Memory => EngineFail::Memory,
-    }
-}
 
 // What a task comes to, step by step.
 fn check<G: GitPort, V: SigPort, K: Keeper>(
@@ -55,6 +41,7 @@ fn check<G: GitPort, V: SigPort, K: Keeper>(
     ensures sig_table { V.table sig.new ≡ V.table sig.old }
     ensures keeper_told { K.tells keeper.new ≡ K.tells keeper.old }
     ensures kept { K.kept keeper.new ≡ K.kept keeper.old }
+    ensures stores { K.stores keeper.new ≡ K.stores keeper.old }
 {
     let start = find_start(alloc, git, task)?;
     let Ok(scope) = make_scope(alloc, task, &start.ring) else {
@@ -63,7 +50,7 @@ fn check<G: GitPort, V: SigPort, K: Keeper>(
     let entries = load_entries(alloc, keeper, task.cache_key.as_str(), &scope)?;
     let mut graph = match read_history(alloc, git, task.dir.as_str(), start.target, task.intro) {
         Ok(graph) => graph,
-        Err(fail) => return Err(engine_fail(fail)),
+        Err(fail) => return Err(EngineFail::of_history(fail)),
     };
     decide(alloc, git, sig, task, &start, &scope, &entries, &mut graph)
 }
@@ -106,6 +93,7 @@ pub fn authenticate<G: GitPort, V: SigPort, K: Keeper>(
     ensures sig_table { V.table sig.new ≡ V.table sig.old }
     ensures keeper_told { K.tells keeper.new ≡ K.tells keeper.old }
     ensures kept { K.kept keeper.new ≡ K.kept keeper.old }
+    ensures stores { K.stores keeper.new ≡ K.stores keeper.old }
 {
     check(alloc, git, sig, keeper, task)
 }

@@ -41,6 +41,7 @@ pub fn load_entries<K: Keeper>(
     ensures keep_fault { RoseWhen (is_keep_fault result) (K.faults keeper.old) (K.faults keeper.new) }
     ensures told { K.tells keeper.new ≡ K.tells keeper.old }
     ensures kept { K.kept keeper.new ≡ K.kept keeper.old }
+    ensures stores { K.stores keeper.new ≡ K.stores keeper.old }
     ensures no_git_fault { is_git_fault result ≡ false }
     ensures no_sig_fault { is_sig_fault result ≡ false }
 {

@@ -1,6 +1,10 @@
 //! Why a target isn't accepted.
+ghost use Rattle.std.specs.Prelude.{◌≡◌};
+ghost use Rattle.auth_engine.specs.Steps.{engine_fail};
+
 use auth_cache::CacheFail;
 use auth_rules::{Cause, What};
+use commit_history::HistoryFail;
 use keyring_branch::KeyringFail;
 use object_frames::Id;
 
@@ -40,4 +44,19 @@ pub enum EngineFail {
     KeepFault,
     /// Memory is wanting.
     Memory,
+}
+
+impl EngineFail {
+    /// Why a history can't be judged, as a refusal of the target.
+    pub fn of_history(fail: HistoryFail) -> EngineFail
+        ensures { result ≡ engine_fail fail }
+    {
+        match fail {
+            HistoryFail::TooMany => EngineFail::TooMany,
+            HistoryFail::Object { id, what } => EngineFail::Object { id, what },
+            HistoryFail::Cycle(id) => EngineFail::Cycle(id),
+            HistoryFail::GitFault => EngineFail::GitFault,
+            HistoryFail::Memory => EngineFail::Memory,
+        }
+    }
 }

@@ -1,8 +1,7 @@
 //! The introduction's judgement.
 ghost use Rattle.std.specs.Prelude.{◌≡◌, IsTrue, false};
-ghost use Rattle.child_ports.specs.Causes.{RoseWhen};
+ghost use Rattle.child_ports.specs.Causes.{AtMostOnce, RoseWhen};
 ghost use Rattle.auth_rules.specs.World.{world_of};
-ghost use Rattle.auth_rules.specs.Answers.{AskedOnce};
 ghost use Rattle.auth_engine.specs.Answers.{is_git_fault, is_sig_fault, is_keep_fault};
 ghost use Rattle.auth_engine.specs.Asked.{AsksIntro};
 ghost use Rattle.auth_engine.specs.Steps.{JudgesIntro};
@@ -26,7 +25,7 @@ pub fn judge_intro<G: GitPort, V: SigPort>(
         JudgesIntro (world_of (G.table git.old) dir.now (V.table sig.old) (V.loaded sig.old)) scope.now keys.now result }
     ensures asked { IsTrue (G.tells git.old) → IsTrue (V.tells sig.old) →
         AsksIntro (world_of (G.table git.old) dir.now (V.table sig.old) (V.loaded sig.old)) scope.now.intro result (V.asked sig.old) (V.asked sig.new) }
-    ensures once { AskedOnce (V.asked sig.old) (V.asked sig.new) }
+    ensures once { AtMostOnce (V.asked sig.old) (V.asked sig.new) }
     ensures git_fault { RoseWhen (is_git_fault result) (G.faults git.old) (G.faults git.new) }
     ensures sig_fault { RoseWhen (is_sig_fault result) (V.faults sig.old) (V.faults sig.new) }
     ensures no_keep_fault { is_keep_fault result ≡ false }

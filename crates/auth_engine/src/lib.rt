@@ -25,4 +25,5 @@ mod tests;
 pub use authenticating::authenticate;
 pub use engine_fail::{EngineFail, Which};
 pub use limits::task_fits;
+pub use naming::name_first_commit;
 pub use task::{Signer, SignerList, Task, Verdict};

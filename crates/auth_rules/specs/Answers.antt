@@ -1,5 +1,5 @@
 -- What the checks of one commit answer.
-use Rattle.std.specs.Prelude.{◌≡◌, ◌≤◌, ℕ, [], ◌∷◌, Bool, true, false, Option, Some, None, Result, Ok, Err, is_none, if◌then◌else◌}
+use Rattle.std.specs.Prelude.{◌≡◌, ℕ, [], ◌∷◌, Bool, true, false, Option, Some, None, Result, Ok, Err, is_none, if◌then◌else◌}
 use Rattle.std.specs.FinMap as map
 use Rattle.child_ports.specs.Causes.{one_more}
 use Rattle.commit_graph.specs.History.{Commits, Holds, IsParent}
@@ -69,10 +69,6 @@ is_intro_asked w i = is_none (first (root_fault w i ∷ unsigned (judged_of w i)
 -- the count of questions is one more where one was due, and else as before
 abbrev pub AskedWhen : Bool → ℕ → ℕ → Type 0
 AskedWhen due before now = now ≡ (if due then one_more before else before)
-
--- at most one question was asked
-abbrev pub AskedOnce : ℕ → ℕ → Type 0
-AskedOnce before now = (before ≤ now) × (now ≤ one_more before)
 
 -- the questions that a verdict took: one where it was due, else none. A fault and want of memory may come before it or behind it.
 abbrev pub Asks : {T : Type 0} → Bool → Result T RuleFail → ℕ → ℕ → Type 0

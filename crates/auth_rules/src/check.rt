@@ -1,7 +1,7 @@
 //! The checks of one commit, and of the introduction.
 ghost use Rattle.std.specs.Prelude.{◌≡◌, Some, IsTrue, false};
-ghost use Rattle.child_ports.specs.Causes.{RoseWhen};
-ghost use Rattle.auth_rules.specs.Answers.{HoldsFamily, ListsParents, AnswersBy, Asks, AskedOnce, is_asked, is_intro_asked, is_git_fault, is_sig_fault};
+ghost use Rattle.child_ports.specs.Causes.{AtMostOnce, RoseWhen};
+ghost use Rattle.auth_rules.specs.Answers.{HoldsFamily, ListsParents, AnswersBy, Asks, is_asked, is_intro_asked, is_git_fault, is_sig_fault};
 ghost use Rattle.auth_rules.specs.Rules.{cause, intro_cause, other_signer, signer};
 ghost use Rattle.auth_rules.specs.World.{world_of};
 
@@ -41,7 +41,7 @@ pub fn check_commit<G: GitPort, V: SigPort>(
         Asks (is_asked w id) result (V.asked sig.old) (V.asked sig.new) }
 
     // Over any port it is asked at most once.
-    ensures once { AskedOnce (V.asked sig.old) (V.asked sig.new) }
+    ensures once { AtMostOnce (V.asked sig.old) (V.asked sig.new) }
 
     // A fault of a port comes exactly where a call on it failed.
     ensures git_fault { RoseWhen (is_git_fault result) (G.faults git.old) (G.faults git.new) }
@@ -93,7 +93,7 @@ pub fn check_intro<G: GitPort, V: SigPort>(
         Asks (is_intro_asked w scope.now.intro) result (V.asked sig.old) (V.asked sig.new) }
 
     // Over any port it is asked at most once.
-    ensures once { AskedOnce (V.asked sig.old) (V.asked sig.new) }
+    ensures once { AtMostOnce (V.asked sig.old) (V.asked sig.new) }
 
     // A fault of a port comes exactly where a call on it failed.
     ensures git_fault { RoseWhen (is_git_fault result) (G.faults git.old) (G.faults git.new) }

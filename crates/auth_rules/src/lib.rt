@@ -19,5 +19,6 @@ mod tests;
 
 pub use cause::{Cause, RuleFail, What};
 pub use check::{check_commit, check_intro};
+pub use limits::{FILE_LIMIT, TREE_LIMIT};
 pub use read_fail::ReadFail;
-pub use reading::read_commit_at;
+pub use reading::{blob_of, read_commit_at, read_content};

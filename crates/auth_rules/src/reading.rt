@@ -20,8 +20,9 @@ fn is_kind(kind: Kind, wanted: Kind) -> bool
     kind == wanted
 }
 
-// The content of an object of the wanted kind.
-fn read_content<G: GitPort>(
+/// The content of the object of this id, which has to be of the wanted kind and at most so many bytes long; or why it can't
+/// be read.
+pub fn read_content<G: GitPort>(
     alloc: Global,
     git: &mut G,
     dir: &str,
@@ -73,8 +74,8 @@ pub fn read_commit_at<G: GitPort>(
     }
 }
 
-// The blob of an entry, where the entry is a file.
-fn blob_of(entry: &Entry) -> Option<Id>
+/// The blob of an entry, where the entry is a file.
+pub fn blob_of(entry: &Entry) -> Option<Id>
     ensures { result ≡ blob_of entry.now }
 {
     if entry.mode.is_file() {

@@ -1,8 +1,8 @@
 //! The signature of a commit.
 ghost use Rattle.std.specs.Prelude.{◌≡◌, Some, IsTrue, is_some, false};
 ghost use Rattle.std.specs.Option.{option_and_then};
-ghost use Rattle.child_ports.specs.Causes.{RoseWhen};
-ghost use Rattle.auth_rules.specs.Answers.{AnswersBy, Asks, AskedOnce, is_git_fault, is_sig_fault};
+ghost use Rattle.child_ports.specs.Causes.{AtMostOnce, RoseWhen};
+ghost use Rattle.auth_rules.specs.Answers.{AnswersBy, Asks, is_git_fault, is_sig_fault};
 ghost use Rattle.auth_rules.specs.Consulting.{RuledBy, sig_world};
 ghost use Rattle.auth_rules.specs.Rules.{weak, judgement, signature_cause, valid_key};
 
@@ -54,7 +54,7 @@ pub fn judge_signed<V: SigPort>(
         let j = judgement (sig_world (V.table sig.old) (V.loaded sig.old)) root.now.commit in
         AnswersBy (signature_cause j (is_some root.now.file) keys.now) (λ key. option_and_then valid_key j ≡ Some key) result }
     ensures asked { Asks (is_some root.now.commit.signature) result (V.asked sig.old) (V.asked sig.new) }
-    ensures once { AskedOnce (V.asked sig.old) (V.asked sig.new) }
+    ensures once { AtMostOnce (V.asked sig.old) (V.asked sig.new) }
     ensures no_git_fault { is_git_fault result ≡ false }
     ensures sig_fault { RoseWhen (is_sig_fault result) (V.faults sig.old) (V.faults sig.new) }
 {

@@ -30,8 +30,8 @@ fn channels_in(alloc: Global, elements: &[Datum]) -> Result<ChannelList, Channel
     Ok(channels)
 }
 
-// Whether one of the channels has this name.
-fn has_name(channels: &[Channel], name: &str) -> bool
+/// Whether one of the channels has this name.
+pub fn has_name(channels: &[Channel], name: &str) -> bool
     ensures { result ≡ has_name channels.now name.now }
 {
     channels.iter().any(|channel| channel.name.as_str() == name)

@@ -23,6 +23,6 @@ mod opening;
 mod tests;
 
 pub use channel::{Channel, ChannelList, Introduction, Metadata};
-pub use channels::read_channels;
+pub use channels::{has_name, read_channels};
 pub use fail::{ChannelFail, Field};
 pub use metadata::read_metadata;

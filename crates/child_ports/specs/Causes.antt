@@ -7,6 +7,10 @@ use Rattle.child_ports.specs.declared.fail.PortFail.TheVariants.{Failed, Memory}
 abbrev pub one_more : ℕ → ℕ
 one_more count = max count (min (count + 1) (2 ^ 64 - 1))
 
+-- The count is as before or one more, up to the last u64.
+abbrev pub AtMostOnce : ℕ → ℕ → Type 0
+AtMostOnce before now = (before ≤ now) × (now ≤ one_more before)
+
 -- The count has risen, or stands at the last u64.
 abbrev pub Rose : ℕ → ℕ → Type 0
 Rose before now = one_more before ≤ now

@@ -1,7 +1,7 @@
 //! The keeper of records: values by their keys.
 ghost use Rattle.std.specs.Prelude.{◌≡◌, ◌⊎◌, ℕ, Bool, IfOk, OnOk, IsErrOf, IsTrue};
 ghost use Rattle.std.specs.FinMap as map;
-ghost use Rattle.child_ports.specs.Causes.{PortFailsByCount};
+ghost use Rattle.child_ports.specs.Causes.{PortFailsByCount, one_more};
 ghost use Rattle.child_ports.specs.Keeper.{Kept, with_pairs};
 
 use crate::{Bytes, Items, PortFail, Text};
@@ -24,6 +24,9 @@ pub trait Keeper {
     /// Whether what is kept is told. It may cease to be at a `store` that failed, and never comes back.
     ghost tells: { Self → Bool };
 
+    /// How often `store` was called, whatever it answered. It stays at the last u64.
+    ghost stores: { Self → ℕ };
+
     /// The values by their keys.
     ghost kept: { Self → Kept };
 
@@ -31,6 +34,7 @@ pub trait Keeper {
     fn load(&mut self, alloc: Global, key: &str) -> Result<Option<Bytes>, PortFail>
         ensures told { tells self.new ≡ tells self.old }
         ensures kept { kept self.new ≡ kept self.old }
+        ensures stores { stores self.new ≡ stores self.old }
         ensures value { IfOk result (λ value. IsTrue (tells self.old) → value ≡ map.get (kept self.old) key.now) }
         ensures cause { PortFailsByCount (faults self.old) (faults self.new) result };
 
@@ -42,5 +46,6 @@ pub trait Keeper {
         ensures failed { IsErrOf result PortFail.Failed → IsTrue (tells self.old) → IsTrue (tells self.new) →
             (kept self.new ≡ kept self.old) ⊎ (kept self.new ≡ with_pairs (kept self.old) pairs.now) }
         ensures memory { IsErrOf result PortFail.Memory → IsTrue (tells self.old) → IsTrue (tells self.new) × (kept self.new ≡ kept self.old) }
+        ensures stores { stores self.new ≡ one_more (stores self.old) }
         ensures cause { PortFailsByCount (faults self.old) (faults self.new) result };
 }

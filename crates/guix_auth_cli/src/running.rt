@@ -1,6 +1,6 @@
 //! The top call.
 ghost use Rattle.std.specs.Prelude.{◌≡◌, ◌≢◌, ◌⊎◌, Some, IsTrue, MatchOption, false};
-ghost use Rattle.child_ports.specs.Causes.{Stayed};
+ghost use Rattle.child_ports.specs.Causes.{AtMostOnce, Stayed};
 ghost use Rattle.auth_engine.specs.Outcome.{HasAuthenticTarget};
 ghost use Rattle.auth_words.specs.declared.plan.Plan.{Plan};
 ghost use Rattle.auth_words.specs.declared.plan.Command.TheVariants.{Authenticate};
@@ -55,6 +55,7 @@ fn run_task<G: GitPort, V: SigPort, K: Keeper, O: Sink, E: Sink>(
     ensures keeps { IsTrue (G.tells git.old) → IsTrue (V.tells gpgv.old) → IsTrue (K.tells keeper.old) → IsTrue (K.tells keeper.new) →
         let o = outside (G.table git.old) (V.table gpgv.old) (K.kept keeper.old) in
         HasSoundOrNone o plan.now historical → KeepsOrStores o plan.now historical (K.kept keeper.new) }
+    ensures one_store { AtMostOnce (K.stores keeper.old) (K.stores keeper.new) }
     ensures asked { IsTrue (G.tells git.old) → IsTrue (V.tells gpgv.old) → IsTrue (K.tells keeper.old) →
         AsksAsTold (outside (G.table git.old) (V.table gpgv.old) (K.kept keeper.old)) plan.now historical result (V.asked gpgv.old) (V.asked gpgv.new) }
     ensures git_told { G.tells git.new ≡ G.tells git.old }
@@ -110,6 +111,7 @@ fn run_plan<G: GitPort, V: SigPort, K: Keeper, R: FileRoom, O: Sink, E: Sink>(
     ensures keeps { IsTrue (G.tells git.old) → IsTrue (V.tells gpgv.old) → IsTrue (K.tells keeper.old) → IsTrue (K.tells keeper.new) → IsTrue (R.tells room.old) →
         let o = outside (G.table git.old) (V.table gpgv.old) (K.kept keeper.old) in
         OfKeys (R.files room.old) plan.now (λ keys. HasSoundOrNone o plan.now keys → KeepsOrStores o plan.now keys (K.kept keeper.new)) }
+    ensures one_store { AtMostOnce (K.stores keeper.old) (K.stores keeper.new) }
     ensures asked { IsTrue (G.tells git.old) → IsTrue (V.tells gpgv.old) → IsTrue (K.tells keeper.old) → IsTrue (R.tells room.old) →
         AsksFor (outside (G.table git.old) (V.table gpgv.old) (K.kept keeper.old)) (R.files room.old) plan.now result (V.asked gpgv.old) (V.asked gpgv.new) }
     ensures git_told { G.tells git.new ≡ G.tells git.old }
@@ -183,6 +185,9 @@ pub fn run<G: GitPort, V: SigPort, K: Keeper, R: FileRoom, O: Sink, E: Sink>(
         IsTrue (G.tells git.old) → IsTrue (V.tells gpgv.old) → IsTrue (K.tells keeper.old) → IsTrue (K.tells keeper.new) → IsTrue (R.tells room.old) →
         let o = outside (G.table git.old) (V.table gpgv.old) (K.kept keeper.old) in
         OfKeys (R.files room.old) plan (λ keys. HasSoundOrNone o plan keys → KeepsOrStores o plan keys (K.kept keeper.new)) }
+
+    // What is kept is put in one call: `store` is called at most once.
+    ensures one_store { AtMostOnce (K.stores keeper.old) (K.stores keeper.new) }
 
     // And a sound cache is sound behind it.
     ensures sound { (plan : Plan) → command_of words.now ≡ Some (Authenticate plan) →

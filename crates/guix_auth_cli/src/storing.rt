@@ -1,6 +1,6 @@
 //! What an accepted target leaves: records and output.
 ghost use Rattle.std.specs.Prelude.{◌≡◌, ◌⊎◌, nat_eq, IsErrOf, IsTrue, IfOk, OnOk};
-ghost use Rattle.child_ports.specs.Causes.{PortFailsByCount, RoseWhen, Stayed};
+ghost use Rattle.child_ports.specs.Causes.{AtMostOnce, PortFailsByCount, RoseWhen, Stayed};
 ghost use Rattle.guix_auth_cli.specs.Answers.{Answer, output_of, with_store};
 ghost use Rattle.guix_auth_cli.specs.Faults.{IsStoreFault};
 ghost use Rattle.guix_auth_cli.specs.Run.{IsFinished, Shows, stored, sunk};
@@ -47,6 +47,7 @@ fn store_pair<K: Keeper>(alloc: Global, keeper: &mut K, pair: Option<Pair>) -> R
         (K.kept keeper.new ≡ K.kept keeper.old) ⊎ (K.kept keeper.new ≡ with_store (K.kept keeper.old) pair) }
     ensures memory { IsErrOf result PortFail.Memory → IsTrue (K.tells keeper.old) → IsTrue (K.tells keeper.new) × (K.kept keeper.new ≡ K.kept keeper.old) }
     ensures cause { PortFailsByCount (K.faults keeper.old) (K.faults keeper.new) result }
+    ensures one_store { AtMostOnce (K.stores keeper.old) (K.stores keeper.new) }
 {
     let Some(pair) = pair else {
         return Ok(());
@@ -77,6 +78,7 @@ pub fn finish<K: Keeper, O: Sink, E: Sink>(
     ensures fault { IsStoreFault result (K.faults keeper.old) (K.faults keeper.new) (O.faults out.old) (O.faults out.new) }
     ensures keeps { IsTrue (K.tells keeper.old) → IsTrue (K.tells keeper.new) →
         (K.kept keeper.new ≡ K.kept keeper.old) ⊎ (K.kept keeper.new ≡ with_store (K.kept keeper.old) verdict.store) }
+    ensures one_store { AtMostOnce (K.stores keeper.old) (K.stores keeper.new) }
     ensures unchanged { IsTrue (K.tells keeper.old) → IsTrue (K.tells keeper.new) → result ≡ 6 → K.kept keeper.new ≡ K.kept keeper.old }
     ensures keeper_told { IsTrue (K.tells keeper.new) → IsTrue (K.tells keeper.old) }
     ensures keeper_tells { Stayed (K.faults keeper.old) (K.faults keeper.new) → IsTrue (K.tells keeper.old) → IsTrue (K.tells keeper.new) }

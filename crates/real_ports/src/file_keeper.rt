@@ -24,6 +24,7 @@ pub struct FileKeeper<R: Files<File = File> + AllocGlobal + Drop> {
     rt: R,
     folder: String,
     faults: u64,
+    stores: u64,
 }
 
 impl<R: Files<File = File> + AllocGlobal + Drop> FileKeeper<R> {
@@ -34,6 +35,7 @@ impl<R: Files<File = File> + AllocGlobal + Drop> FileKeeper<R> {
             rt,
             folder,
             faults: 0,
+            stores: 0,
         })
     }
 }
@@ -100,6 +102,8 @@ impl<R: Files<File = File> + AllocGlobal + Drop> Keeper for FileKeeper<R> {
 
     ghost tells = { λ _. false };
 
+    ghost stores = { λ keeper. keeper.stores };
+
     ghost kept = { λ _. fin.empty };
 
     fn load(&mut self, alloc: Global, key: &str) -> Result<Option<Bytes>, PortFail> {
@@ -108,6 +112,7 @@ impl<R: Files<File = File> + AllocGlobal + Drop> Keeper for FileKeeper<R> {
     }
 
     fn store(&mut self, pairs: &Pairs) -> Result<(), PortFail> {
+        self.stores = self.stores.saturating_add(1);
         let written = put_values(&self.rt, self.folder.as_str(), pairs.as_slice());
         counted(written, &mut self.faults)
     }

@@ -48,6 +48,7 @@ fn a_second_run_asks_for_the_introduction_alone(rt: HostRuntime) -> Result<(), F
         )?;
         check_kept(&rt, alloc, &mut keeper, "k", Some(text.as_str()))?;
     }
+    assert_eq!(rt; keeper.stores(), 1);
     Ok(())
 }
 

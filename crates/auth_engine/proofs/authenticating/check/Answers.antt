@@ -32,7 +32,7 @@ returns-in-Err-clause-outcome g c = λ git sig keeper sound.
     let elsewhere = c.in-Err.ensures.answer told sigs start.ring.bytes in
     let answer = subst (λ (answers : List GitRow). IsHistoryAnswer (world_of answers task.dir sigs start.ring.bytes) start.target task.intro (Err c.in-Err.fail)) c.in_ok-start.ensures.table
     (subst (λ (dir : List ℕ). IsHistoryAnswer (world_of (g.G.GitPort.table c.find_start.new.git) dir sigs start.ring.bytes) start.target task.intro (Err c.in-Err.fail)) c.as_str-2.ensures elsewhere) in
-    subst (λ (fail : EngineFail). OnFinding {T = Verdict} (Err fail) (IsOutcome rows sigs task (map.get kept task.cache_key) (Err fail))) (sym c.engine_fail.ensures)
+    subst (λ (fail : EngineFail). OnFinding {T = Verdict} (Err fail) (IsOutcome rows sigs task (map.get kept task.cache_key) (Err fail))) (sym c.of_history.ensures)
     (unread_outcome rows sigs task (map.get kept task.cache_key) start entries c.in-Err.fail (c.in_ok-start.ensures.start git) cached answer)
 
 pub returns-clause-outcome : goal.returns-clause-outcome
