@@ -1,0 +1,3 @@
+pub mod Files
+pub mod Relations
+pub mod Resolving
