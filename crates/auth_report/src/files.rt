@@ -23,8 +23,8 @@ pub enum FileFail {
     Memory,
 }
 
-// Adds why bytes have no first datum.
-fn push_sexp(text: &mut Bytes, fail: SexpFail) -> Result<(), AllocError>
+/// Adds why bytes have no first datum.
+pub fn push_sexp(text: &mut Bytes, fail: SexpFail) -> Result<(), AllocError>
     ensures { OnOk result (text.new ≡ text.old ++ sexp_text fail) }
 {
     match fail {

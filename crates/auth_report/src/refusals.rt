@@ -78,8 +78,8 @@ fn push_refused(text: &mut Bytes, id: Id, cause: Cause) -> Result<(), AllocError
     push_cause(text, cause)
 }
 
-// Adds why a target isn't accepted.
-fn push_fail(text: &mut Bytes, fail: &EngineFail) -> Result<(), AllocError>
+/// Adds why a target isn't accepted.
+pub fn push_fail(text: &mut Bytes, fail: &EngineFail) -> Result<(), AllocError>
     ensures { OnOk result (text.new ≡ text.old ++ fail_text fail.now) }
 {
     match fail {

@@ -1,13 +1,12 @@
-pub mod AppLemmas
+pub mod AuthenticateLemmas
 pub mod ChangeLemmas
+pub mod ChannelsLemmas
 pub mod DoomLemmas
 pub mod FitLemmas
-pub mod GivenLemmas
 pub mod MatchLemmas
-pub mod PlanLemmas
+pub mod ReaderLemmas
 pub mod RowLemmas
 pub mod SameLemmas
 pub mod ShapeLemmas
 pub mod TakenLemmas
 pub mod TurnLemmas
-pub mod WalkLemmas

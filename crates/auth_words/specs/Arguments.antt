@@ -1,15 +1,15 @@
 -- The arguments that words are, read from left to right.
-use Rattle.std.specs.Prelude.{ℕ, ◌==◌, Bool, true, false, not, if◌then◌else◌, List, [], ◌∷◌, filter, Option, Some, None}
-use Rattle.std.specs.List.{filter_map}
+use Rattle.std.specs.Prelude.{ℕ, ◌==◌, ◌&&◌, Bool, true, false, not, if◌then◌else◌, bytes_eq, List, [], ◌∷◌, Option, Some, None}
+use Rattle.std.specs.List.{filter_map, list_all}
 use Rattle.std.specs.Option.{option_map}
-use Rattle.auth_words.specs.Form.{Setting, Repository, Keyring, End, CacheKey, Historical, Form, form_of}
+use Rattle.auth_words.specs.Form.{Grammar, Form, form_of}
 use Rattle.auth_words.specs.Form as form
 
--- a positional word, an option's value, or the flag `--stats`
+-- a positional word, an option with its value, or a flag
 pub data Argument : Type 0 where
   positional : List ℕ → Argument
-  valued : Setting → List ℕ → Argument
-  flag : Argument
+  valued : List ℕ → List ℕ → Argument
+  flag : List ℕ → Argument
 
 -- the next word may be an option's value: it doesn't begin with `-`, which is 45, or is `-` alone
 abbrev pub is_value : List ℕ → Bool
@@ -24,54 +24,64 @@ then_rest argument rest = option_map (λ arguments. argument ∷ arguments) rest
 -- where a reading of words stands: between arguments, behind an option that waits for its value, or behind `--`
 pub data Place : Type 0 where
   Between : Place
-  Waiting : Setting → Place
+  Waiting : List ℕ → Place
   Behind : Place
 
 -- a word between arguments, and then the rest from where it leads
 abbrev pub between : Form → List ℕ → (Place → Option (List Argument)) → Option (List Argument)
 between form.positional word rest = then_rest (positional word) (rest Between)
-between (form.valued setting value) word rest = then_rest (valued setting value) (rest Between)
-between (form.asking setting) word rest = rest (Waiting setting)
-between form.flag word rest = then_rest flag (rest Between)
+between (form.valued name value) word rest = then_rest (valued name value) (rest Between)
+between (form.asking name) word rest = rest (Waiting name)
+between (form.flag name) word rest = then_rest (flag name) (rest Between)
 between form.ending word rest = rest Behind
 between form.unknown word rest = None
 
 -- the arguments of words: read between arguments, where an option waits for its value, or behind `--`
-abbrev pub arguments_from : Place → List (List ℕ) → Option (List Argument)
-arguments_from Between [] = Some []
-arguments_from (Waiting setting) [] = None
-arguments_from Behind [] = Some []
-arguments_from Between (word ∷ words) = between (form_of word) word (λ place. arguments_from place words)
-arguments_from (Waiting setting) (word ∷ words) = if is_value word then then_rest (valued setting word) (arguments_from Between words) else None
-arguments_from Behind (word ∷ words) = then_rest (positional word) (arguments_from Behind words)
+abbrev pub arguments_from : Grammar → Place → List (List ℕ) → Option (List Argument)
+arguments_from grammar Between [] = Some []
+arguments_from grammar (Waiting name) [] = None
+arguments_from grammar Behind [] = Some []
+arguments_from grammar Between (word ∷ words) = between (form_of grammar word) word (λ place. arguments_from grammar place words)
+arguments_from grammar (Waiting name) (word ∷ words) =
+    if is_value word then then_rest (valued name word) (arguments_from grammar Between words) else None
+arguments_from grammar Behind (word ∷ words) = then_rest (positional word) (arguments_from grammar Behind words)
 
--- the positional words, in their order
 abbrev pub positional_in : Argument → Option (List ℕ)
 positional_in (positional word) = Some word
-positional_in (valued setting value) = None
-positional_in flag = None
+positional_in (valued name value) = None
+positional_in (flag name) = None
 
--- the value that an argument gives an option
-abbrev pub value_in : Setting → Argument → Option (List ℕ)
-value_in Repository (valued Repository value) = Some value
-value_in Keyring (valued Keyring value) = Some value
-value_in End (valued End value) = Some value
-value_in CacheKey (valued CacheKey value) = Some value
-value_in Historical (valued Historical value) = Some value
-value_in _ _ = None
+-- the value that an argument gives the option with this name
+abbrev pub value_in : List ℕ → Argument → Option (List ℕ)
+value_in name (positional word) = None
+value_in name (valued other value) = if bytes_eq other name then Some value else None
+value_in name (flag other) = None
 
-abbrev pub is_flag : Argument → Bool
-is_flag flag = true
-is_flag _ = false
+-- the flag, where an argument is the flag with this name
+abbrev pub flag_in : List ℕ → Argument → Option (List ℕ)
+flag_in name (positional word) = None
+flag_in name (valued other value) = None
+flag_in name (flag other) = if bytes_eq other name then Some other else None
 
 -- the positional words, in their order
 abbrev pub positionals : List Argument → List (List ℕ)
 positionals arguments = filter_map positional_in arguments
 
 -- the values that an option is given
-abbrev pub values : Setting → List Argument → List (List ℕ)
-values setting arguments = filter_map (value_in setting) arguments
+abbrev pub values : List ℕ → List Argument → List (List ℕ)
+values name arguments = filter_map (value_in name) arguments
 
--- the flags
-abbrev pub flags : List Argument → List Argument
-flags arguments = filter is_flag arguments
+-- the uses of a flag
+abbrev pub flags : List ℕ → List Argument → List (List ℕ)
+flags name arguments = filter_map (flag_in name) arguments
+
+-- there is at most one
+abbrev pub is_lone : List (List ℕ) → Bool
+is_lone [] = true
+is_lone (x ∷ []) = true
+is_lone (x ∷ y ∷ more) = false
+
+-- each option stands at most once, and so does each flag
+abbrev pub each_once : Grammar → List Argument → Bool
+each_once grammar arguments =
+    list_all (λ name. is_lone (values name arguments)) grammar.options && list_all (λ name. is_lone (flags name arguments)) grammar.flags

@@ -1,42 +1,39 @@
 -- What one word is, where no option waits for its value and no `--` has stood.
-use Rattle.std.specs.Prelude.{ℕ, Bool, ◌==◌, if◌then◌else◌, bytes_eq, codes, List, [], ◌∷◌, Option, Some, None}
+use Rattle.std.specs.Prelude.{ℕ, Bool, ◌==◌, if◌then◌else◌, bytes_eq, find, List, [], ◌∷◌, Option, Some, None}
 use Rattle.std.specs.List.{list_any, before_first, after_first}
+use Rattle.std.specs.Option.{option_map}
 
--- the options with a value
-pub data Setting : Type 0 where
-  Repository : Setting
-  Keyring : Setting
-  End : Setting
-  CacheKey : Setting
-  Historical : Setting
+-- what a command takes: options with a value and flags, by their names, and the letters of some options
+pub record Grammar : Type 0 where
+  pub options : List (List ℕ)
+  pub letters : List (ℕ × List ℕ)
+  pub flags : List (List ℕ)
 
--- a positional word, an option with its value, an option whose value is the next word, the flag, `--`, or no word that counts
+-- a positional word, an option with its value, an option whose value is the next word, a flag, `--`, or no word that counts
 pub data Form : Type 0 where
   positional : Form
-  valued : Setting → List ℕ → Form
-  asking : Setting → Form
-  flag : Form
+  valued : List ℕ → List ℕ → Form
+  asking : List ℕ → Form
+  flag : List ℕ → Form
   ending : Form
   unknown : Form
 
--- the option with this name
-abbrev pub setting_named : List ℕ → Option Setting
-setting_named name =
-    if bytes_eq name (codes "repository") then Some Repository else (
-    if bytes_eq name (codes "keyring") then Some Keyring else (
-    if bytes_eq name (codes "end") then Some End else (
-    if bytes_eq name (codes "cache-key") then Some CacheKey else (
-    if bytes_eq name (codes "historical-authorizations") then Some Historical else
-    None))))
+-- it is one of these names
+abbrev pub is_among : List (List ℕ) → List ℕ → Bool
+is_among names name = list_any (λ other. bytes_eq other name) names
 
--- the option with this letter: `r` or `k`
-abbrev pub setting_lettered : ℕ → Option Setting
-setting_lettered letter = if letter == 114 then Some Repository else (if letter == 107 then Some Keyring else None)
+-- the option with this name
+abbrev pub option_named : Grammar → List ℕ → Option (List ℕ)
+option_named grammar name = if is_among grammar.options name then Some name else None
+
+-- the option with this letter
+abbrev pub option_lettered : Grammar → ℕ → Option (List ℕ)
+option_lettered grammar letter = option_map (λ x. x.1) (find (λ x. x.0 == letter) grammar.letters)
 
 -- an option, if there is one, with the value that stands in its word, if one does
-abbrev pub option_form : Option Setting → Option (List ℕ) → Form
-option_form (Some setting) (Some value) = valued setting value
-option_form (Some setting) None = asking setting
+abbrev pub option_form : Option (List ℕ) → Option (List ℕ) → Form
+option_form (Some name) (Some value) = valued name value
+option_form (Some name) None = asking name
 option_form None value = unknown
 
 -- `=`
@@ -44,19 +41,19 @@ abbrev pub is_equals : ℕ → Bool
 is_equals b = b == 61
 
 -- `NAME`
-abbrev pub lone_form : List ℕ → Form
-lone_form name = if bytes_eq name (codes "stats") then flag else option_form (setting_named name) None
+abbrev pub lone_form : Grammar → List ℕ → Form
+lone_form grammar name = if is_among grammar.flags name then flag name else option_form (option_named grammar name) None
 
 -- `NAME=VALUE`, where the value is all that follows the first `=`, or `NAME`
-abbrev pub named_form : List ℕ → Form
-named_form text =
-    if list_any is_equals text then option_form (setting_named (before_first is_equals text)) (Some (after_first is_equals text)) else
-    lone_form text
+abbrev pub named_form : Grammar → List ℕ → Form
+named_form grammar text =
+    if list_any is_equals text then option_form (option_named grammar (before_first is_equals text)) (Some (after_first is_equals text)) else
+    lone_form grammar text
 
 -- what follows `--`
-unfoldable pub long_form : List ℕ → Form
-long_form [] = ending
-long_form (b ∷ bytes) = named_form (b ∷ bytes)
+unfoldable pub long_form : Grammar → List ℕ → Form
+long_form grammar [] = ending
+long_form grammar (b ∷ bytes) = named_form grammar (b ∷ bytes)
 
 -- what follows the letter of an option: its value with or without a leading `=`, or nothing
 abbrev pub attached : List ℕ → Option (List ℕ)
@@ -64,16 +61,16 @@ attached [] = None
 attached (b ∷ bytes) = if is_equals b then Some bytes else Some (b ∷ bytes)
 
 -- what follows `-`: the letter of an option, and its value
-unfoldable pub short_form : List ℕ → Form
-short_form [] = unknown
-short_form (b ∷ bytes) = option_form (setting_lettered b) (attached bytes)
+unfoldable pub short_form : Grammar → List ℕ → Form
+short_form grammar [] = unknown
+short_form grammar (b ∷ bytes) = option_form (option_lettered grammar b) (attached bytes)
 
 -- what follows a first `-`, which is 45: nothing, another, or a letter
-unfoldable pub dashed_form : List ℕ → Form
-dashed_form [] = positional
-dashed_form (b ∷ bytes) = if b == 45 then long_form bytes else short_form (b ∷ bytes)
+unfoldable pub dashed_form : Grammar → List ℕ → Form
+dashed_form grammar [] = positional
+dashed_form grammar (b ∷ bytes) = if b == 45 then long_form grammar bytes else short_form grammar (b ∷ bytes)
 
 -- a word; `-` alone is positional
-unfoldable pub form_of : List ℕ → Form
-form_of [] = positional
-form_of (b ∷ bytes) = if b == 45 then dashed_form bytes else positional
+unfoldable pub form_of : Grammar → List ℕ → Form
+form_of grammar [] = positional
+form_of grammar (b ∷ bytes) = if b == 45 then dashed_form grammar bytes else positional

@@ -1,16 +1,17 @@
 -- What words ask for.
-use Rattle.std.specs.Prelude.{ℕ, Bool, true, false, ◌&&◌, nat_le, if◌then◌else◌, List, [], ◌∷◌, ◌++◌, length, codes, bytes_eq, Option, Some, None, unwrap_or, option_and_then, IsTrue}
+use Rattle.std.specs.Prelude.{ℕ, Bool, true, false, not, ◌&&◌, nat_le, if◌then◌else◌, List, [], ◌∷◌, ◌++◌, length, codes, bytes_eq, Option, Some, None, unwrap_or, option_and_then, IsTrue}
 use Rattle.std.specs.List.{list_all}
 use Rattle.hex.specs.Hex.{encode_lower}
 use Rattle.child_ports.specs.declared.fingerprint.Fingerprint.{Fingerprint}
 use Rattle.child_ports.specs.Fingerprint.{fingerprint_in}
 use Rattle.object_frames.specs.declared.id.Id.{Id}
 use Rattle.object_frames.specs.Id.{id_in}
-use Rattle.auth_words.specs.Form.{Repository, Keyring, End, CacheKey, Historical}
+use Rattle.auth_words.specs.Grammars.{authenticate, channels}
 use Rattle.auth_words.specs.declared.plan.Plan.{Plan}
+use Rattle.auth_words.specs.declared.plan.ChannelsPlan.{ChannelsPlan}
 use Rattle.auth_words.specs.declared.plan.Command.{Command}
-use Rattle.auth_words.specs.declared.plan.Command.TheVariants.{Help, Authenticate}
-use Rattle.auth_words.specs.Arguments.{Argument, Between, arguments_from, positionals, values, flags}
+use Rattle.auth_words.specs.declared.plan.Command.TheVariants.{Help, Authenticate, Channels}
+use Rattle.auth_words.specs.Arguments.{Argument, Between, arguments_from, positionals, values, flags, each_once}
 use Rattle.name_limits.specs.Limits.{is_word, is_path, is_reference, is_cache_key}
 use Rattle.auth_words.specs.Limits.{fits}
 
@@ -55,38 +56,27 @@ abbrev pub plan_of : List (List ℕ) → Options → Option Plan
 plan_of (commit ∷ signer ∷ []) o = plan_of_two commit signer o
 plan_of _ o = None
 
--- there is at most one
-abbrev pub is_lone : {A : Type 0} → List A → Bool
-is_lone [] = true
-is_lone (x ∷ []) = true
-is_lone (x ∷ y ∷ more) = false
-
 abbrev pub first : List (List ℕ) → Option (List ℕ)
 first [] = None
 first (x ∷ more) = Some x
 
-abbrev pub is_any : {A : Type 0} → List A → Bool
+abbrev pub is_any : List (List ℕ) → Bool
 is_any [] = false
 is_any (x ∷ more) = true
 
--- each option stands at most once, and so does the flag
-abbrev pub each_once : List Argument → Bool
-each_once arguments = is_lone (values Repository arguments) && is_lone (values Keyring arguments) && is_lone (values End arguments)
-    && is_lone (values CacheKey arguments) && is_lone (values Historical arguments) && is_lone (flags arguments)
-
 abbrev pub options_in : List Argument → Options
 options_in arguments = record {
-  repository = first (values Repository arguments);
-  keyring = first (values Keyring arguments);
-  end = first (values End arguments);
-  cache_key = first (values CacheKey arguments);
-  historical = first (values Historical arguments);
-  stats = is_any (flags arguments);
+  repository = first (values (codes "repository") arguments);
+  keyring = first (values (codes "keyring") arguments);
+  end = first (values (codes "end") arguments);
+  cache_key = first (values (codes "cache-key") arguments);
+  historical = first (values (codes "historical-authorizations") arguments);
+  stats = is_any (flags (codes "stats") arguments);
 }
 
--- the plan of arguments
+-- the plan of arguments of `authenticate`
 abbrev pub plan_in : List Argument → Option Plan
-plan_in arguments = if each_once arguments then plan_of (positionals arguments) (options_in arguments) else None
+plan_in arguments = if each_once authenticate arguments then plan_of (positionals arguments) (options_in arguments) else None
 
 abbrev pub authenticate_by : Option Plan → Option Command
 authenticate_by (Some plan) = Some (Authenticate plan)
@@ -94,19 +84,47 @@ authenticate_by None = None
 
 -- the words behind `authenticate`
 abbrev pub authenticate_in : List (List ℕ) → Option Command
-authenticate_in words = authenticate_by (option_and_then plan_in (arguments_from Between words))
+authenticate_in words = authenticate_by (option_and_then plan_in (arguments_from authenticate Between words))
+
+-- FILE and the folder of clones are paths
+abbrev pub channels_from : List ℕ → List ℕ → Bool → Bool → Option ChannelsPlan
+channels_from file clones allow_downgrades unchecked = if is_path file && is_path clones then Some (record {
+  file = file;
+  clones = clones;
+  allow_downgrades = allow_downgrades;
+  check = not unchecked;
+}) else None
+
+-- the plan of the positional words, of which there is one, of the folder of clones, which is given, and of both flags
+abbrev pub channels_of : List (List ℕ) → Option (List ℕ) → Bool → Bool → Option ChannelsPlan
+channels_of (file ∷ []) (Some clones) allow_downgrades unchecked = channels_from file clones allow_downgrades unchecked
+channels_of _ _ allow_downgrades unchecked = None
+
+-- the plan of arguments of `channels`
+abbrev pub channels_plan_in : List Argument → Option ChannelsPlan
+channels_plan_in arguments = if each_once channels arguments then channels_of (positionals arguments) (first (values (codes "clones") arguments))
+    (is_any (flags (codes "allow-downgrades") arguments)) (is_any (flags (codes "disable-authentication") arguments)) else None
+
+abbrev pub channels_by : Option ChannelsPlan → Option Command
+channels_by (Some plan) = Some (Channels plan)
+channels_by None = None
+
+-- the words behind `channels`
+abbrev pub channels_in : List (List ℕ) → Option Command
+channels_in words = channels_by (option_and_then channels_plan_in (arguments_from channels Between words))
 
 abbrev pub help_by : List (List ℕ) → Option Command
 help_by [] = Some Help
 help_by (word ∷ words) = None
 
--- `--help` alone, or `authenticate` and its arguments
+-- `--help` alone, or `authenticate` or `channels` and its arguments
 abbrev pub command_in : List (List ℕ) → Option Command
 command_in [] = None
 command_in (command ∷ words) =
     if bytes_eq command (codes "--help") then help_by words else (
-    if bytes_eq command (codes "authenticate") then authenticate_in words else
-    None)
+    if bytes_eq command (codes "authenticate") then authenticate_in words else (
+    if bytes_eq command (codes "channels") then channels_in words else
+    None))
 
 -- The command that words state, if they state one. There are at most 64.
 abbrev pub command_of : List (List ℕ) → Option Command
@@ -119,7 +137,15 @@ pub record IsFitting (plan : Plan) : Type 0 where
   pub end : IsTrue (is_reference plan.end)
   pub cache_key : IsTrue (is_cache_key plan.cache_key)
 
+-- each part of a plan of `channels` has its form, and is no longer than a word
+pub record IsFittingSet (plan : ChannelsPlan) : Type 0 where
+  pub file : IsTrue (is_path plan.file)
+  pub file_word : IsTrue (is_word plan.file)
+  pub clones : IsTrue (is_path plan.clones)
+  pub clones_word : IsTrue (is_word plan.clones)
+
 -- the same of a command that has a plan
 abbrev pub HasFittingPlan : Command → Type 0
 HasFittingPlan Help = Unit {0}
 HasFittingPlan (Authenticate plan) = IsFitting plan
+HasFittingPlan (Channels plan) = IsFittingSet plan

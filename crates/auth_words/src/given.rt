@@ -1,12 +1,11 @@
 //! What words give.
-ghost use Rattle.std.specs.Prelude.{◌≡◌, ◌≢◌, None, map, IfOk};
-ghost use Rattle.clap.specs.Words.{found_of, kind_of, rows_of};
+ghost use Rattle.std.specs.Prelude.{◌≡◌, ◌≢◌, None, map, true, IfOk};
+ghost use Rattle.clap.specs.Words.{app_of, found_of, is_simple_and_free, kind_of, rows_of};
 ghost use Rattle.auth_words.specs.GivenInside.{Gives, Takes, options_seen};
 
-use crate::app::command;
 use clap::error::ErrorKind;
-use clap::{ArgMatches, Error};
-use std::alloc::{AllocError, Global};
+use clap::{ArgMatches, Command, Error};
+use std::alloc::AllocError;
 
 /// The values of options, and whether `--stats` stands.
 #[derive(Clone, Copy, Debug)]
@@ -28,7 +27,7 @@ pub fn options_in<'a>(matches: &ArgMatches<'a>) -> Options<'a>
         keyring: matches.get_str("keyring"),
         end: matches.get_str("end"),
         cache_key: matches.get_str("cache-key"),
-        historical: matches.get_str("historical"),
+        historical: matches.get_str("historical-authorizations"),
         stats: matches.get_flag("stats"),
     }
 }
@@ -43,14 +42,14 @@ fn refused<'a>(error: &Error) -> Result<Option<ArgMatches<'a>>, AllocError>
     }
 }
 
-/// The matches of words, or None where clap refuses them.
+/// The matches of a command's words, or None where clap refuses them.
 pub fn matches_in<'a>(
-    alloc: Global,
+    command: Command<'a>,
     words: &'a [&'a str],
 ) -> Result<Option<ArgMatches<'a>>, AllocError>
-    ensures { IfOk result (Takes (map (λ s. s.now) words.entry.now)) }
+    requires { is_simple_and_free (app_of command) ≡ true }
+    ensures { IfOk result (Takes (app_of command.entry) (map (λ s. s.now) words.entry.now)) }
 {
-    let command = command(alloc)?;
     match command.try_get_matches_from(words) {
         Ok(matches) => Ok(Some(matches)),
         Err(error) => refused(&error),

@@ -18,9 +18,21 @@ pub struct Plan {
     pub historical: Option<Text>,
 }
 
+/// What `channels` is asked for.
+#[derive(Debug, Drop)]
+pub struct ChannelsPlan {
+    pub file: Text,
+    /// The folder of the clones.
+    pub clones: Text,
+    pub allow_downgrades: bool,
+    /// Whether channels are checked at all.
+    pub check: bool,
+}
+
 /// A command that words state.
 #[derive(Debug, Drop)]
 pub enum Command {
     Help,
     Authenticate(Plan),
+    Channels(ChannelsPlan),
 }

@@ -4,14 +4,18 @@ ghost use Rattle.std.specs.List.{All};
 ghost use Rattle.std.specs.Str.{IsUtf8};
 ghost use Rattle.clap.specs.Words.{found_of, rows_of};
 ghost use Rattle.auth_words.specs.Arguments.{Between, arguments_from};
+ghost use Rattle.auth_words.specs.Grammars.{authenticate};
 ghost use Rattle.hex.specs.Hex.{encode_lower};
 ghost use Rattle.auth_words.specs.GivenInside.{options_seen, value_seen, IsPlanOf};
 ghost use Rattle.auth_words.specs.Words as rule;
 ghost use Rattle.auth_words.specs.Words.{are_fit, default_key, plan_from, authenticate_in, plan_in, help_by, command_in, command_of, HasFittingPlan};
 
+use crate::app;
+use crate::channels::read_channels;
 use crate::given::{Options, matches_in, options_in};
 use crate::limits::{are_words, fits_cache_key, fits_path, fits_reference};
 use crate::plan::{Command, Plan};
+use crate::texts::{copied, texts_of};
 use child_ports::{Fingerprint, Text, Words};
 use clap::ArgMatches;
 use object_frames::Id;
@@ -19,15 +23,6 @@ use std::alloc::{AllocError, Global};
 use std::str;
 
 const MAX_WORDS: usize = 64;
-
-// A copy of a text.
-fn copied(alloc: Global, text: &str) -> Result<Text, AllocError>
-    ensures { IfOk result (λ copy. copy ≡ text.now) }
-{
-    let mut copy = Text::new(alloc);
-    copy.push(text)?;
-    Ok(copy)
-}
 
 // A copy of a value that is given, or of what stands in its place.
 fn copied_or(alloc: Global, value: Option<&str>, other: &str) -> Result<Text, AllocError>
@@ -150,24 +145,12 @@ fn plan_of_matches(alloc: Global, matches: &ArgMatches) -> Result<Option<Plan>, 
 // The plan of a command's words.
 fn plan_of_texts(alloc: Global, texts: &[&str]) -> Result<Option<Plan>, AllocError>
     requires { All IsUtf8 (map (λ s. s.now) texts.now) }
-    ensures { IfOk result (λ plan. plan ≡ option_and_then plan_in (arguments_from Between (drop 1 (map (λ s. s.now) texts.now)))) }
+    ensures { IfOk result (λ plan. plan ≡ option_and_then plan_in (arguments_from authenticate Between (drop 1 (map (λ s. s.now) texts.now)))) }
 {
-    match matches_in(alloc, texts)? {
+    match matches_in(app::authenticate(alloc)?, texts)? {
         Some(matches) => plan_of_matches(alloc, &matches),
         None => Ok(None),
     }
-}
-
-// The texts of words.
-fn texts_of(alloc: Global, words: &[Text]) -> Result<Vec<&str>, AllocError>
-    ensures texts { IfOk result (λ texts. map (λ s. s.now) texts.items ≡ words.now) }
-    ensures utf8 { IfOk result (λ texts. All IsUtf8 (map (λ s. s.now) texts.items)) }
-{
-    let mut texts = Vec::new(alloc);
-    for word in words {
-        texts.push(word.as_str())?;
-    }
-    Ok(texts)
 }
 
 // The command `authenticate` with the plan of its words.
@@ -204,6 +187,9 @@ fn read_command(alloc: Global, words: &[Text]) -> Result<Option<Command>, AllocE
     }
     if command.as_str() == "authenticate" {
         return read_authenticate(alloc, words);
+    }
+    if command.as_str() == "channels" {
+        return read_channels(alloc, words);
     }
     Ok(None)
 }

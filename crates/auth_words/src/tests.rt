@@ -1,5 +1,5 @@
 //! Words and their commands.
-use crate::{Command, Plan, read_words};
+use crate::{ChannelsPlan, Command, Plan, read_words};
 use child_ports::{Fingerprint, Text, Words};
 use object_frames::Id;
 use std::alloc::{AllocError, Global};
@@ -122,6 +122,7 @@ fn check_words(
             }
             None => panic!(rt; "{line} has the plan {plan:?}"),
         },
+        Some(Command::Channels(plan)) => panic!(rt; "{line} has the plan {plan:?}"),
         Some(Command::Help) => panic!(rt; "{line} asks for help"),
         None => {
             assert!(rt; want.is_none(), "{line} states no command");
@@ -366,6 +367,139 @@ fn there_are_at_most_64_words(rt: HostRuntime) -> Result<(), Fail> {
             read_words(rt.alloc(), &words)?.is_none(),
             "of {count} words"
         );
+    }
+    Ok(())
+}
+
+// What a plan of `channels` has.
+#[derive(Clone, Copy, Drop)]
+struct ChannelsWant {
+    file: &'static str,
+    clones: &'static str,
+    allow_downgrades: bool,
+    check: bool,
+}
+
+const CHECKED: ChannelsWant = ChannelsWant {
+    file: "F",
+    clones: "D",
+    allow_downgrades: false,
+    check: true,
+};
+
+const DOWNGRADING: ChannelsWant = ChannelsWant {
+    allow_downgrades: true,
+    ..CHECKED
+};
+
+const UNCHECKED: ChannelsWant = ChannelsWant {
+    check: false,
+    ..CHECKED
+};
+
+const ALL: ChannelsWant = ChannelsWant {
+    allow_downgrades: true,
+    check: false,
+    ..CHECKED
+};
+
+fn file(file: &'static str) -> ChannelsWant {
+    ChannelsWant { file, ..CHECKED }
+}
+
+fn clones(clones: &'static str) -> ChannelsWant {
+    ChannelsWant { clones, ..CHECKED }
+}
+
+fn is_wanted_set(plan: &ChannelsPlan, want: &ChannelsWant) -> bool {
+    plan.file.as_str() == want.file
+        && plan.clones.as_str() == want.clones
+        && plan.allow_downgrades == want.allow_downgrades
+        && plan.check == want.check
+}
+
+// Checks that the words of a line state the wanted plan of `channels`.
+fn check_channels(
+    rt: &impl Abort,
+    alloc: Global,
+    line: &str,
+    want: &ChannelsWant,
+) -> Result<(), AllocError> {
+    match read_words(alloc, &words_of(alloc, line)?)? {
+        Some(Command::Channels(plan)) => {
+            assert!(rt; is_wanted_set(&plan, want), "at {line}: {plan:?}");
+        }
+        _ => panic!(rt; "{line} isn't taken for channels"),
+    }
+    Ok(())
+}
+
+#[test]
+fn a_plan_of_channels_has_what_its_words_give(rt: HostRuntime) -> Result<(), Fail> {
+    for (line, want) in [
+        ("channels F --clones=D", CHECKED),
+        ("channels F --clones D", CHECKED),
+        ("channels --clones=D F", CHECKED),
+        ("channels --clones D F", CHECKED),
+        ("channels --clones=D -- F", CHECKED),
+        ("channels F --clones=D --", CHECKED),
+        ("channels --clones=D -- --clones", file("--clones")),
+        ("channels - --clones=D", file("-")),
+        ("channels F --clones -", clones("-")),
+        ("channels F --clones=-D", clones("-D")),
+        ("channels F --clones==D=E", clones("=D=E")),
+        ("channels channels --clones=D", file("channels")),
+        ("channels F --clones=D --allow-downgrades", DOWNGRADING),
+        ("channels --allow-downgrades F --clones D", DOWNGRADING),
+        ("channels F --disable-authentication --clones=D", UNCHECKED),
+        (
+            "channels --disable-authentication --clones D --allow-downgrades F",
+            ALL,
+        ),
+    ] {
+        check_channels(&rt, rt.alloc(), line, &want)?;
+    }
+    Ok(())
+}
+
+#[test]
+fn other_words_state_no_channels(rt: HostRuntime) -> Result<(), Fail> {
+    for line in [
+        "channels",
+        "channels F",
+        "channels --clones=D",
+        "channels F --clones",
+        "channels F --clones=",
+        "channels F --clones ",
+        "channels  --clones=D",
+        "channels F G --clones=D",
+        "channels F --clones D G",
+        "channels F -- --clones=D",
+        "channels F --clones --",
+        "channels F --clones -D",
+        "channels F --clones --allow-downgrades",
+        "channels F --clones=D --clones=D",
+        "channels F --clones D --clones=E",
+        "channels F --clone=D",
+        "channels F -c D",
+        "channels F --clones=D --allow-downgrades=",
+        "channels F --clones=D --allow-downgrades=true",
+        "channels F --clones=D --allow-downgrades --allow-downgrades",
+        "channels F --clones=D --allow",
+        "channels F --clones=D --disable-authentication=x",
+        "channels F --clones=D --disable-authentication --disable-authentication",
+        "channels F --clones=D --disable",
+        "channels F --clones=D -r D",
+        "channels F --clones=D --repository=D",
+        "channels F --clones=D --stats",
+        "channels F --clones=D --help",
+        "channels F --clones=D -x",
+        "channels F --clones=D\n",
+        "channel F --clones=D",
+        "authenticate I S --clones=D",
+        "authenticate I S --allow-downgrades",
+    ] {
+        check(&rt, rt.alloc(), line, None)?;
     }
     Ok(())
 }

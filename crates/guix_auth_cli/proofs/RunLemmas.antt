@@ -7,6 +7,7 @@ use Rattle.std.specs.Cmp.Lexicographic.{nat_list_cmp_total}
 use Rattle.std.proofs.lemmas.Map.Text.{is_eq-slice_cmp}
 use Rattle.std.proofs.lemmas.Slice.Eq.{bytes_eq-Decides}
 use Rattle.child_ports.specs.declared.keeper.Pair.{Pair}
+use Rattle.child_ports.specs.Causes.{Rose}
 use Rattle.child_ports.specs.Keeper.{Kept}
 use Rattle.child_ports.specs.KeySet.{Keys}
 use Rattle.auth_engine.specs.declared.task.Verdict.{Verdict}
@@ -17,16 +18,20 @@ use Rattle.auth_engine.proofs.StoredLemmas.{stored_sound}
 use Rattle.auth_engine.specs.declared.engine_fail.EngineFail.TheVariants.{Memory}
 use Rattle.auth_report.specs.Texts.{refusal_line}
 use Rattle.auth_words.specs.declared.plan.Plan.{Plan}
+use Rattle.auth_words.specs.declared.plan.ChannelsPlan.{ChannelsPlan}
 use Rattle.auth_words.specs.declared.plan.Command.{Command}
-use Rattle.auth_words.specs.declared.plan.Command.TheVariants.{Help, Authenticate}
+use Rattle.auth_words.specs.declared.plan.Command.TheVariants.{Help, Authenticate, Channels}
 use Rattle.auth_words.specs.Words.{command_of}
-use Rattle.guix_auth_cli.specs.Answers.{Answer, refused, with_store, IsAnswerTo, IsAnswerOf, unread_by}
-use Rattle.guix_auth_cli.specs.Faults.{Counts}
-use Rattle.guix_auth_cli.specs.Outside.{Outside, outside, task_for, cache_in, historical_of, HasSoundCache, HasSoundOrNone}
-use Rattle.guix_auth_cli.specs.Run.{Sunk, Stored, Shows, stored, IsItOrUnread, IsSoundOrNoneFor, KeepsOrStores}
-use Rattle.guix_auth_cli.specs.Shown.{IsPut, IsStatus}
-use Rattle.guix_auth_cli.proofs.ShownLemmas.{untouched}
-use Rattle.guix_auth_cli.proofs.StoringLemmas.{stop_shown}
+use Rattle.run_answers.specs.Answers.{Answer, refused}
+use Rattle.authenticate_run.specs.Answers.{with_store}
+use Rattle.run_answers.specs.Faults.{Counts, Ends, IsOtherFault}
+use Rattle.channel_deps.specs.Outside.{Outside, outside}
+use Rattle.authenticate_run.specs.Outside.{task_for, cache_in, historical_of, HasSoundCache, HasSoundOrNone}
+use Rattle.run_answers.specs.Ended.{Sunk, Stored, IsOutput, Shows, stored, IsItOrUnread}
+use Rattle.authenticate_run.specs.Run.{KeepsOrStores}
+use Rattle.guix_auth_cli.specs.Answers.{IsAnswerTo, IsAnswerOf, unread_by, MayWarn}
+use Rattle.run_answers.specs.Shown.{IsPut, IsStatus}
+use Rattle.run_answers.proofs.FinishLemmas.{stop_shown}
 
 -- what was read is what the words state
 pub read_is : {E : Type 0} (result : Result (Option Command) E) (read stated : Option Command) → IfOk result (λ command. command ≡ stated) → result ≡ Ok read → stated ≡ read
@@ -38,6 +43,18 @@ some_plan e = cc
 -- words state one plan
 pub one_plan : (words : List (List ℕ)) (plan other : Plan) → command_of words ≡ Some (Authenticate plan) → command_of words ≡ Some (Authenticate other) → plan ≡ other
 one_plan words plan other is also = some_plan (sym is ∙ also)
+
+some_list : {a b : ChannelsPlan} → ◌≡◌ {A = Option Command} (Some (Channels a)) (Some (Channels b)) → a ≡ b
+some_list e = cc
+
+-- words state one list
+pub one_list : (words : List (List ℕ)) (plan other : ChannelsPlan) → command_of words ≡ Some (Channels plan) → command_of words ≡ Some (Channels other) → plan ≡ other
+one_list words plan other is also = some_list (sym is ∙ also)
+
+-- a fault of a command is one of its words
+pub fault_of_words : (words : List (List ℕ)) (command : Option Command) (status : ℕ) (before now : Ends) (room room' : ℕ) → command_of words ≡ command
+    → IsOtherFault (MayWarn command) status before now room room' → IsOtherFault (MayWarn (command_of words)) status before now room room'
+fault_of_words words command status before now room room' is = subst (λ (c : Option Command). IsOtherFault (MayWarn c) status before now room room') (sym is)
 
 -- the help has none
 pub help_has_none : (words : List (List ℕ)) (plan : Plan) → command_of words ≡ Some Help → command_of words ≡ Some (Authenticate plan) → ⊥
@@ -56,8 +73,8 @@ module _ (o : Outside) (files : Kept) (words : List (List ℕ)) (before now : Co
   ran command is ended = subst Ran (sym is) ended
 
   -- an answer that is given at once
-  pub at_once : (command : Option Command) (answer : Answer) → command_of words ≡ command → IsAnswerTo o files command answer → IsStatus answer.status status
-      → IsPut out.taken out'.taken answer.out out.failed out'.failed → IsPut err.taken err'.taken answer.err err.failed err'.failed → store'.kept ≡ answer.kept → Ran (command_of words)
+  pub at_once : (command : Option Command) (answer : Answer) → command_of words ≡ command → IsAnswerTo o files command answer → IsStatus (Rose out.failed out'.failed ⊎ Rose err.failed err'.failed) answer.status status
+      → IsOutput answer.out out out' err err' → IsPut err.taken err'.taken answer.err err.failed err'.failed → store'.kept ≡ answer.kept → Ran (command_of words)
   at_once command answer is it own put_out put_err keeps = ran command is (answer, inl (inl it), record { status_is = own; output = put_out; line = put_err; records = λ _. keeps })
 
 pub wants_memory : (o : Outside) (files : Kept) (words : List (List ℕ)) (before now : Counts) (room room' status : ℕ) (store' : Stored) (out err err' : Sunk) → status ≡ 6 → store'.kept ≡ o.kept

@@ -1,6 +1,1 @@
 pub mod Answers
-pub mod Faults
-pub mod Historical
-pub mod Outside
-pub mod Run
-pub mod Shown

@@ -1,20 +1,17 @@
 //! The program `guix-auth`: it authenticates Git histories by the rules of GNU Guix channels.
 //!
 //! `running::run` is the top call, and its contract is the theorem of the program. `specs/Answers.antt` says what
-//! is due to words, `specs/Run.antt` how a run ends. `main` makes the real children and streams, and calls it.
+//! is due to words; how a run ends with that stands in `run_answers`. `main` makes the real children and streams, and calls it.
 #![tactic(auto)]
 
 mod help;
-mod historical;
 mod running;
-mod showing;
-mod storing;
-mod tasking;
 #[cfg(test)]
 mod tests;
 
 use child_ports::{Text, Words};
-use real_ports::{ChildGit, ChildSig, FileKeeper, RealRoom, StdSink, program_named, store_root};
+use real_ports::{ChildGit, ChildSig, RealRoom, StdSink, program_named, store_root};
+use state_store::SqlKeeper;
 use std::io::ErrorKind;
 use std::process::ExitCode;
 use std::{env, io};
@@ -43,12 +40,13 @@ fn run_program(rt: HostRuntime) -> io::Result<u8> {
     let git = program_named(&rt, "GUIX_AUTH_GIT", "git")?;
     let gpgv = program_named(&rt, "GUIX_AUTH_GPGV", "gpgv")?;
     let root = store_root(&rt)?;
+    let records = format!(in alloc; "{root}/kept.sqlite")?;
     Ok(running::run(
         alloc,
         &words,
         &mut ChildGit::new(rt, git.as_str())?,
         &mut ChildSig::new(rt, gpgv.as_str(), root.as_str())?,
-        &mut FileKeeper::new(rt, root.as_str())?,
+        &mut SqlKeeper::at(rt, alloc, records.as_str())?,
         &mut RealRoom::new(rt),
         &mut StdSink::new(rt.stdout()),
         &mut StdSink::new(rt.stderr()),

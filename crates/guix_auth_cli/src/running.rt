@@ -1,135 +1,27 @@
 //! The top call.
 ghost use Rattle.std.specs.Prelude.{◌≡◌, ◌≢◌, ◌⊎◌, Some, IsTrue, MatchOption, false};
 ghost use Rattle.child_ports.specs.Causes.{AtMostOnce, Stayed};
-ghost use Rattle.auth_engine.specs.Outcome.{HasAuthenticTarget};
 ghost use Rattle.auth_words.specs.declared.plan.Plan.{Plan};
-ghost use Rattle.auth_words.specs.declared.plan.Command.TheVariants.{Authenticate};
-ghost use Rattle.auth_words.specs.Words.{IsFitting, command_of};
-ghost use Rattle.guix_auth_cli.specs.Answers.{Answer, IsDue, IsAnswerBy, IsAnswerOf, unread_by};
-ghost use Rattle.guix_auth_cli.specs.Faults.{counts, IsChildFault, IsStoreFault, IsOtherFault};
-ghost use Rattle.guix_auth_cli.specs.Outside.{outside, task_for, OfKeys, HasSoundCache, HasSoundOrNone};
-ghost use Rattle.guix_auth_cli.specs.Run.{stored, sunk, Shows, IsItOrStopped, IsItOrUnread, KeepsOrStores, AsksAsTold, AsksFor, IsAuthenticFor, IsSoundOrNoneFor, asks_for_check};
+ghost use Rattle.auth_words.specs.declared.plan.ChannelsPlan.{ChannelsPlan};
+ghost use Rattle.auth_words.specs.declared.plan.Command.TheVariants.{Authenticate, Channels};
+ghost use Rattle.auth_words.specs.Words.{command_of};
+ghost use Rattle.channel_deps.specs.Outcome.{AreSoundOrNone, HasSoundCaches};
+ghost use Rattle.channel_deps.specs.Outside.{outside};
+ghost use Rattle.run_answers.specs.Answers.{Answer};
+ghost use Rattle.run_answers.specs.Ended.{IsItOrUnread, Shows, stored, sunk};
+ghost use Rattle.run_answers.specs.Faults.{IsChildFault, IsOtherFault, counts, ends};
+ghost use Rattle.authenticate_run.specs.Outside.{OfKeys, HasSoundCache, HasSoundOrNone};
+ghost use Rattle.authenticate_run.specs.Run.{KeepsOrStores, AsksFor, IsAuthenticFor};
+ghost use Rattle.channels_run.specs.Answers.{IsAcceptedSet, KeepsOrStoresAll, OfSet};
+ghost use Rattle.guix_auth_cli.specs.Answers.{IsAnswerOf, IsSoundOrNoneFor, MayWarn, asks_for_check, unread_by};
 
 use crate::help::HELP;
-use crate::historical::historical_keys;
-use crate::showing::{OUT_OF_MEMORY, tell, tell_refusal};
-use crate::storing::{finish, print};
-use crate::tasking::make_task;
-use auth_engine::{EngineFail, authenticate};
-use auth_words::{Command, Plan, read_words};
-use authorizations::KeySet;
+use auth_words::{Command, read_words};
+use authenticate_run::run_authenticate;
+use channels_run::run_channels;
 use child_ports::{FileRoom, GitPort, Keeper, SigPort, Sink, Words};
+use run_answers::{OUT_OF_MEMORY, print, tell};
 use std::alloc::Global;
-
-// Authenticates by a plan, with the historical keys of its file.
-fn run_task<G: GitPort, V: SigPort, K: Keeper, O: Sink, E: Sink>(
-    alloc: Global,
-    plan: &Plan,
-    historical: KeySet,
-    git: &mut G,
-    gpgv: &mut V,
-    keeper: &mut K,
-    out: &mut O,
-    err: &mut E,
-) -> u8
-    requires fits { IsFitting plan.now }
-    ensures answer { IsTrue (G.tells git.old) → IsTrue (V.tells gpgv.old) → IsTrue (K.tells keeper.old) → IsTrue (O.tells out.old) → IsTrue (E.tells err.old) →
-        let o = outside (G.table git.old) (V.table gpgv.old) (K.kept keeper.old) in
-        HasSoundOrNone o plan.now historical →
-        (answer : Answer) × IsItOrStopped (IsDue o plan.now historical) (K.kept keeper.old)
-        (counts (G.faults git.old) (V.faults gpgv.old) (K.faults keeper.old)) (counts (G.faults git.new) (V.faults gpgv.new) (K.faults keeper.new)) answer
-        × Shows answer result (stored (K.kept keeper.old) (K.faults keeper.old)) (stored (K.kept keeper.new) (K.faults keeper.new))
-        (sunk (O.taken out.old) (O.faults out.old)) (sunk (O.taken out.new) (O.faults out.new))
-        (sunk (E.taken err.old) (E.faults err.old)) (sunk (E.taken err.new) (E.faults err.new)) }
-    ensures accepted { IsTrue (G.tells git.old) → IsTrue (V.tells gpgv.old) → IsTrue (K.tells keeper.old) →
-        let o = outside (G.table git.old) (V.table gpgv.old) (K.kept keeper.old) in
-        HasSoundOrNone o plan.now historical → result ≡ 0 → HasAuthenticTarget o.answers o.verdicts (task_for plan.now historical) }
-    ensures complete { IsTrue (G.tells git.old) → IsTrue (V.tells gpgv.old) → IsTrue (K.tells keeper.old) →
-        let o = outside (G.table git.old) (V.table gpgv.old) (K.kept keeper.old) in
-        HasSoundCache o plan.now historical → HasAuthenticTarget o.answers o.verdicts (task_for plan.now historical) →
-        (result ≡ 0) ⊎ (result ≡ 4) ⊎ (result ≡ 5) ⊎ (result ≡ 6) }
-    ensures child_fault { IsChildFault result (G.faults git.old) (G.faults git.new) (V.faults gpgv.old) (V.faults gpgv.new) }
-    ensures store_fault { IsStoreFault result (K.faults keeper.old) (K.faults keeper.new) (O.faults out.old) (O.faults out.new) }
-    ensures no_words { result ≢ 2 }
-    ensures unchanged { IsTrue (K.tells keeper.old) → IsTrue (K.tells keeper.new) → result ≢ 0 → result ≢ 5 → K.kept keeper.new ≡ K.kept keeper.old }
-    ensures keeps { IsTrue (G.tells git.old) → IsTrue (V.tells gpgv.old) → IsTrue (K.tells keeper.old) → IsTrue (K.tells keeper.new) →
-        let o = outside (G.table git.old) (V.table gpgv.old) (K.kept keeper.old) in
-        HasSoundOrNone o plan.now historical → KeepsOrStores o plan.now historical (K.kept keeper.new) }
-    ensures one_store { AtMostOnce (K.stores keeper.old) (K.stores keeper.new) }
-    ensures asked { IsTrue (G.tells git.old) → IsTrue (V.tells gpgv.old) → IsTrue (K.tells keeper.old) →
-        AsksAsTold (outside (G.table git.old) (V.table gpgv.old) (K.kept keeper.old)) plan.now historical result (V.asked gpgv.old) (V.asked gpgv.new) }
-    ensures git_told { G.tells git.new ≡ G.tells git.old }
-    ensures git_table { G.table git.new ≡ G.table git.old }
-    ensures gpgv_told { V.tells gpgv.new ≡ V.tells gpgv.old }
-    ensures gpgv_table { V.table gpgv.new ≡ V.table gpgv.old }
-    ensures keeper_told { IsTrue (K.tells keeper.new) → IsTrue (K.tells keeper.old) }
-    ensures keeper_tells { Stayed (K.faults keeper.old) (K.faults keeper.new) → IsTrue (K.tells keeper.old) → IsTrue (K.tells keeper.new) }
-    ensures out_told { O.tells out.new ≡ O.tells out.old }
-    ensures err_told { E.tells err.new ≡ E.tells err.old }
-{
-    let Ok(task) = make_task(alloc, plan, historical) else {
-        return tell_refusal(alloc, err, &EngineFail::Memory);
-    };
-    match authenticate(alloc, git, gpgv, keeper, &task) {
-        Ok(verdict) => finish(alloc, plan, verdict, keeper, out, err),
-        Err(fail) => tell_refusal(alloc, err, &fail),
-    }
-}
-
-// Authenticates by a plan.
-fn run_plan<G: GitPort, V: SigPort, K: Keeper, R: FileRoom, O: Sink, E: Sink>(
-    alloc: Global,
-    plan: &Plan,
-    git: &mut G,
-    gpgv: &mut V,
-    keeper: &mut K,
-    room: &mut R,
-    out: &mut O,
-    err: &mut E,
-) -> u8
-    requires fits { IsFitting plan.now }
-    ensures answer { IsTrue (G.tells git.old) → IsTrue (V.tells gpgv.old) → IsTrue (K.tells keeper.old) → IsTrue (R.tells room.old) → IsTrue (O.tells out.old) → IsTrue (E.tells err.old) →
-        let o = outside (G.table git.old) (V.table gpgv.old) (K.kept keeper.old) in
-        OfKeys (R.files room.old) plan.now (HasSoundOrNone o plan.now) →
-        (answer : Answer) × IsItOrUnread (IsAnswerBy o (R.files room.old) plan.now) (unread_by o.kept (Some (Authenticate plan.now))) o.kept
-        (counts (G.faults git.old) (V.faults gpgv.old) (K.faults keeper.old)) (counts (G.faults git.new) (V.faults gpgv.new) (K.faults keeper.new)) (R.faults room.old) (R.faults room.new) answer
-        × Shows answer result (stored o.kept (K.faults keeper.old)) (stored (K.kept keeper.new) (K.faults keeper.new))
-        (sunk (O.taken out.old) (O.faults out.old)) (sunk (O.taken out.new) (O.faults out.new))
-        (sunk (E.taken err.old) (E.faults err.old)) (sunk (E.taken err.new) (E.faults err.new)) }
-    ensures accepted { IsTrue (G.tells git.old) → IsTrue (V.tells gpgv.old) → IsTrue (K.tells keeper.old) → IsTrue (R.tells room.old) →
-        let o = outside (G.table git.old) (V.table gpgv.old) (K.kept keeper.old) in
-        OfKeys (R.files room.old) plan.now (HasSoundOrNone o plan.now) → result ≡ 0 →
-        IsAuthenticFor o (R.files room.old) plan.now }
-    ensures complete { IsTrue (G.tells git.old) → IsTrue (V.tells gpgv.old) → IsTrue (K.tells keeper.old) → IsTrue (R.tells room.old) →
-        let o = outside (G.table git.old) (V.table gpgv.old) (K.kept keeper.old) in
-        OfKeys (R.files room.old) plan.now (HasSoundCache o plan.now) → IsAuthenticFor o (R.files room.old) plan.now →
-        (result ≡ 0) ⊎ (result ≡ 4) ⊎ (result ≡ 5) ⊎ (result ≡ 6) }
-    ensures child_fault { IsChildFault result (G.faults git.old) (G.faults git.new) (V.faults gpgv.old) (V.faults gpgv.new) }
-    ensures other_fault { IsOtherFault result (K.faults keeper.old) (K.faults keeper.new) (R.faults room.old) (R.faults room.new) (O.faults out.old) (O.faults out.new) }
-    ensures no_words { result ≢ 2 }
-    ensures unchanged { IsTrue (K.tells keeper.old) → IsTrue (K.tells keeper.new) → result ≢ 0 → result ≢ 5 → K.kept keeper.new ≡ K.kept keeper.old }
-    ensures keeps { IsTrue (G.tells git.old) → IsTrue (V.tells gpgv.old) → IsTrue (K.tells keeper.old) → IsTrue (K.tells keeper.new) → IsTrue (R.tells room.old) →
-        let o = outside (G.table git.old) (V.table gpgv.old) (K.kept keeper.old) in
-        OfKeys (R.files room.old) plan.now (λ keys. HasSoundOrNone o plan.now keys → KeepsOrStores o plan.now keys (K.kept keeper.new)) }
-    ensures one_store { AtMostOnce (K.stores keeper.old) (K.stores keeper.new) }
-    ensures asked { IsTrue (G.tells git.old) → IsTrue (V.tells gpgv.old) → IsTrue (K.tells keeper.old) → IsTrue (R.tells room.old) →
-        AsksFor (outside (G.table git.old) (V.table gpgv.old) (K.kept keeper.old)) (R.files room.old) plan.now result (V.asked gpgv.old) (V.asked gpgv.new) }
-    ensures git_told { G.tells git.new ≡ G.tells git.old }
-    ensures git_table { G.table git.new ≡ G.table git.old }
-    ensures gpgv_told { V.tells gpgv.new ≡ V.tells gpgv.old }
-    ensures gpgv_table { V.table gpgv.new ≡ V.table gpgv.old }
-    ensures keeper_told { IsTrue (K.tells keeper.new) → IsTrue (K.tells keeper.old) }
-    ensures keeper_tells { Stayed (K.faults keeper.old) (K.faults keeper.new) → IsTrue (K.tells keeper.old) → IsTrue (K.tells keeper.new) }
-    ensures room_told { R.tells room.new ≡ R.tells room.old }
-    ensures files { R.files room.new ≡ R.files room.old }
-    ensures out_told { O.tells out.new ≡ O.tells out.old }
-    ensures err_told { E.tells err.new ≡ E.tells err.old }
-{
-    match historical_keys(alloc, plan, room, err) {
-        Ok(keys) => run_task(alloc, plan, keys, git, gpgv, keeper, out, err),
-        Err(status) => status,
-    }
-}
 
 const BAD_WORDS: &[u8] = b"guix-auth: bad words; see guix-auth --help\n";
 
@@ -150,8 +42,9 @@ pub fn run<G: GitPort, V: SigPort, K: Keeper, R: FileRoom, O: Sink, E: Sink>(
     // 4: exactly where a call of git's or gpgv's port failed.
     ensures child_fault { IsChildFault result (G.faults git.old) (G.faults git.new) (V.faults gpgv.old) (V.faults gpgv.new) }
 
-    // 5: exactly where a call of the keeper failed, a file of the words could not be read, or standard output could not be put.
-    ensures other_fault { IsOtherFault result (K.faults keeper.old) (K.faults keeper.new) (R.faults room.old) (R.faults room.new) (O.faults out.old) (O.faults out.new) }
+    // 5: exactly where a call of the keeper failed, a file of the words could not be read, or output or a warning could not be put.
+    // Beside 0 no call on standard error failed either.
+    ensures other_fault { IsOtherFault (MayWarn (command_of words.now)) result (ends (K.faults keeper.old) (O.faults out.old) (E.faults err.old)) (ends (K.faults keeper.new) (O.faults out.new) (E.faults err.new)) (R.faults room.old) (R.faults room.new) }
 
     // With any status but 0 and 5 the records stand, a child's fault among them.
     ensures unchanged { IsTrue (K.tells keeper.old) → IsTrue (K.tells keeper.new) → result ≢ 0 → result ≢ 5 → K.kept keeper.new ≡ K.kept keeper.old }
@@ -186,8 +79,25 @@ pub fn run<G: GitPort, V: SigPort, K: Keeper, R: FileRoom, O: Sink, E: Sink>(
         let o = outside (G.table git.old) (V.table gpgv.old) (K.kept keeper.old) in
         OfKeys (R.files room.old) plan (λ keys. HasSoundOrNone o plan keys → KeepsOrStores o plan keys (K.kept keeper.new)) }
 
-    // What is kept is put in one call: `store` is called at most once.
+    // A set of channels likewise: 0 comes only where its outcome is a verdict and, with sound caches, wherever it is; all of its
+    // pairs are put, or none.
+    ensures set_accepted { (plan : ChannelsPlan) → command_of words.now ≡ Some (Channels plan) →
+        IsTrue (G.tells git.old) → IsTrue (V.tells gpgv.old) → IsTrue (K.tells keeper.old) → IsTrue (R.tells room.old) →
+        let o = outside (G.table git.old) (V.table gpgv.old) (K.kept keeper.old) in
+        OfSet (R.files room.old) plan (AreSoundOrNone o) → result ≡ 0 → IsAcceptedSet o (R.files room.old) plan }
+    ensures set_complete { (plan : ChannelsPlan) → command_of words.now ≡ Some (Channels plan) →
+        IsTrue (G.tells git.old) → IsTrue (V.tells gpgv.old) → IsTrue (K.tells keeper.old) → IsTrue (R.tells room.old) →
+        let o = outside (G.table git.old) (V.table gpgv.old) (K.kept keeper.old) in
+        OfSet (R.files room.old) plan (HasSoundCaches o) → IsAcceptedSet o (R.files room.old) plan →
+        (result ≡ 0) ⊎ (result ≡ 4) ⊎ (result ≡ 5) ⊎ (result ≡ 6) }
+    ensures set_keeps { (plan : ChannelsPlan) → command_of words.now ≡ Some (Channels plan) →
+        IsTrue (G.tells git.old) → IsTrue (V.tells gpgv.old) → IsTrue (K.tells keeper.old) → IsTrue (K.tells keeper.new) → IsTrue (R.tells room.old) →
+        let o = outside (G.table git.old) (V.table gpgv.old) (K.kept keeper.old) in
+        OfSet (R.files room.old) plan (λ set. AreSoundOrNone o set → KeepsOrStoresAll o (K.kept keeper.new) set) }
+
+    // What is kept is put in one call: `store` is called at most once, and beside a refusal never.
     ensures one_store { AtMostOnce (K.stores keeper.old) (K.stores keeper.new) }
+    ensures unstored { result ≢ 0 → result ≢ 5 → result ≢ 6 → K.stores keeper.new ≡ K.stores keeper.old }
 
     // And a sound cache is sound behind it.
     ensures sound { (plan : Plan) → command_of words.now ≡ Some (Authenticate plan) →
@@ -196,12 +106,23 @@ pub fn run<G: GitPort, V: SigPort, K: Keeper, R: FileRoom, O: Sink, E: Sink>(
         let after = outside (G.table git.old) (V.table gpgv.old) (K.kept keeper.new) in
         OfKeys (R.files room.old) plan (λ keys. HasSoundCache o plan keys → HasSoundCache after plan keys) }
 
-    // gpgv is asked once for the introduction and once for each commit that isn't covered, up to the first that is refused.
+    // So are those of a set.
+    ensures set_sound { (plan : ChannelsPlan) → command_of words.now ≡ Some (Channels plan) →
+        IsTrue (G.tells git.old) → IsTrue (V.tells gpgv.old) → IsTrue (K.tells keeper.old) → IsTrue (K.tells keeper.new) → IsTrue (R.tells room.old) →
+        let o = outside (G.table git.old) (V.table gpgv.old) (K.kept keeper.old) in
+        let after = outside (G.table git.old) (V.table gpgv.old) (K.kept keeper.new) in
+        OfSet (R.files room.old) plan (λ set. HasSoundCaches o set → HasSoundCaches after set) }
+
+    // gpgv is asked once for the introduction and once for each commit that isn't covered, up to the first that is refused: as many
+    // questions as what was found takes. Over a cache that is sound or no cache text that is the outcome.
     ensures asked { (plan : Plan) → command_of words.now ≡ Some (Authenticate plan) →
         IsTrue (G.tells git.old) → IsTrue (V.tells gpgv.old) → IsTrue (K.tells keeper.old) → IsTrue (R.tells room.old) →
         AsksFor (outside (G.table git.old) (V.table gpgv.old) (K.kept keeper.old)) (R.files room.old) plan result (V.asked gpgv.old) (V.asked gpgv.new) }
 
-    // Words that ask for no check are answered before any port is called.
+    // Where the channels of a set aren't checked, gpgv isn't asked.
+    ensures set_unasked { (plan : ChannelsPlan) → command_of words.now ≡ Some (Channels plan) → plan.check ≡ false → V.asked gpgv.new ≡ V.asked gpgv.old }
+
+    // Words that ask for no check are answered before git, gpgv, the records or a file is called.
     ensures words_first { asks_for_check (command_of words.now) ≡ false →
         (git.new ≡ git.old) × (gpgv.new ≡ gpgv.old) × (keeper.new ≡ keeper.old) × (room.new ≡ room.old) }
 
@@ -218,7 +139,10 @@ pub fn run<G: GitPort, V: SigPort, K: Keeper, R: FileRoom, O: Sink, E: Sink>(
 {
     match read_words(alloc, words) {
         Ok(Some(Command::Authenticate(plan))) => {
-            run_plan(alloc, &plan, git, gpgv, keeper, room, out, err)
+            run_authenticate(alloc, &plan, git, gpgv, keeper, room, out, err)
+        }
+        Ok(Some(Command::Channels(plan))) => {
+            run_channels(alloc, &plan, git, gpgv, keeper, room, out, err)
         }
         Ok(Some(Command::Help)) => print(out, HELP),
         Ok(None) => tell(err, BAD_WORDS, 2),

@@ -1,0 +1,3 @@
+pub mod PlanRunLemmas
+pub mod TaskLemmas
+pub mod TaskRunLemmas

@@ -1,0 +1,4 @@
+pub mod Answers
+pub mod Historical
+pub mod Outside
+pub mod Run

@@ -1,0 +1,10 @@
+pub mod Answers
+pub mod Limits
+pub mod Members
+pub mod Moves
+pub mod Outside
+pub mod Outcome
+pub mod Places
+pub mod Reading
+pub mod Standings
+pub mod Steps

@@ -1,0 +1,4 @@
+pub mod Answers
+pub mod Ended
+pub mod Faults
+pub mod Shown

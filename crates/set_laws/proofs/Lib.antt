@@ -1,0 +1,10 @@
+pub mod ApartLemmas
+pub mod ComingLemmas
+pub mod FoundLemmas
+pub mod KeptLemmas
+pub mod MovedLemmas
+pub mod ReachLemmas
+pub mod RelationLemmas
+pub mod SoundLemmas
+pub mod StoringLemmas
+pub mod TellingLemmas

@@ -1,0 +1,4 @@
+pub mod ListTexts
+pub mod MemberLines
+pub mod SetTexts
+pub mod Warnings

@@ -1,0 +1,4 @@
+pub mod KeptTable
+pub mod Place
+pub mod Refusing
+pub mod Statements
