@@ -47,26 +47,27 @@ module _ (P : Parenthood) (target intro : Id) (entries : List Id) where
       length-le_distinct one other pairs all
 
   -- what is said of some list is said of every one
-  pub some_at_most : (before mid now : ℕ) → AtMostOnce before mid → AsksSome P target intro entries mid now → AsksAtMost P target intro entries before now
+  abbrev AsksEvery : ℕ → ℕ → Type 0
+  AsksEvery before now = (commits : List Id) → AreUncovered P target intro entries commits → AskedAtMost (1 + length commits) before now
+
+  pub some_at_most : (before mid now : ℕ) → AtMostOnce before mid → AsksSome P target intro entries mid now → AsksEvery before now
   some_at_most before mid now once (inl same) = λ commits new. (omega (arith, once, same), omega (arith, once, same))
   some_at_most before mid now once (inr some) = λ commits new.
       let count = uncovered_count some.0 commits some.1 new in
       (omega (arith, once, some.2), omega (arith, once, some.2, count))
 
-  pub at_most_one : (before now : ℕ) → AtMostOnce before now → AsksAtMost P target intro entries before now
-  at_most_one before now once = some_at_most before now now once (inl refl)
+-- at most one question over a history that can be judged
+at_most_one : (w : World) (target intro : Id) (entries : List Id) (before now : ℕ) → IsWhole w target intro → AtMostOnce before now → AsksAtMost w target intro entries before now
+at_most_one w target intro entries before now whole once = inr (whole, some_at_most (history w) target intro entries before now now once (inl refl))
 
 -- ---- no question
 
-same_once : (before now : ℕ) → now ≡ before → AtMostOnce before now
-same_once before now same = (omega arith, omega arith)
-
 module _ (w : World) (task : Task) (start : Start) (entries : List Id) (before now : ℕ) where
   pub stop_asks_for : (fail : EngineFail) → IsStop fail → now ≡ before → AsksFor w task start entries (Err fail) before now
-  stop_asks_for GitFault stop same = at_most_one (history w) start.target task.intro entries before now (same_once before now same)
-  stop_asks_for SigFault stop same = at_most_one (history w) start.target task.intro entries before now (same_once before now same)
+  stop_asks_for GitFault stop same = inl same
+  stop_asks_for SigFault stop same = inl same
   stop_asks_for KeepFault stop same = same
-  stop_asks_for Memory stop same = at_most_one (history w) start.target task.intro entries before now (same_once before now same)
+  stop_asks_for Memory stop same = inl same
   stop_asks_for (Name which what) stop same = absurd stop
   stop_asks_for (Keyring fail) stop same = absurd stop
   stop_asks_for (Cache fail) stop same = absurd stop
@@ -81,8 +82,8 @@ module _ (w : World) (task : Task) (start : Start) (entries : List Id) (before n
   unread_asks_for read.TooMany same = same
   unread_asks_for (read.Object id what) same = same
   unread_asks_for (read.Cycle id) same = same
-  unread_asks_for read.GitFault same = at_most_one (history w) start.target task.intro entries before now (same_once before now same)
-  unread_asks_for read.Memory same = at_most_one (history w) start.target task.intro entries before now (same_once before now same)
+  unread_asks_for read.GitFault same = inl same
+  unread_asks_for read.Memory same = inl same
 
 gives_stop : {A : Type 0} (fail : EngineFail) (x : A) → Gives (Err fail) (Ok x) → IsStop fail
 gives_stop GitFault x gives = tt
@@ -177,21 +178,21 @@ intro_refused_asks w i before now asked = as_more (is_intro_asked w i) before no
 
 -- an introduction that isn't accepted
 pub intro_asks_for : (w : World) (task : Task) (start : Start) (entries : List Id) (keys : Keys) (fail : EngineFail) (before now : ℕ)
-    → JudgesIntro {T = Unit {0}} w (scope_of task start.ring) keys (Err fail) → AsksIntro {T = Unit {0}} w task.intro (Err fail) before now → AtMostOnce before now
+    → IsWhole w start.target task.intro → JudgesIntro {T = Unit {0}} w (scope_of task start.ring) keys (Err fail) → AsksIntro {T = Unit {0}} w task.intro (Err fail) before now → AtMostOnce before now
     → AsksFor w task start entries (Err fail) before now
-intro_asks_for w task start entries keys (Intro id why) before now judges asks once = asks
-intro_asks_for w task start entries keys GitFault before now judges asks once = at_most_one (history w) start.target task.intro entries before now once
-intro_asks_for w task start entries keys SigFault before now judges asks once = at_most_one (history w) start.target task.intro entries before now once
-intro_asks_for w task start entries keys Memory before now judges asks once = at_most_one (history w) start.target task.intro entries before now once
-intro_asks_for w task start entries keys KeepFault before now judges asks once = absurd judges
-intro_asks_for w task start entries keys (Name which what) before now judges asks once = absurd judges
-intro_asks_for w task start entries keys (Keyring fail) before now judges asks once = absurd judges
-intro_asks_for w task start entries keys (Cache fail) before now judges asks once = absurd judges
-intro_asks_for w task start entries keys TooMany before now judges asks once = absurd judges
-intro_asks_for w task start entries keys (OfObject id what) before now judges asks once = absurd judges
-intro_asks_for w task start entries keys (Cycle id) before now judges asks once = absurd judges
-intro_asks_for w task start entries keys (Unrelated target intro) before now judges asks once = absurd judges
-intro_asks_for w task start entries keys (Commit id why) before now judges asks once = absurd judges
+intro_asks_for w task start entries keys (Intro id why) before now whole judges asks once = asks
+intro_asks_for w task start entries keys GitFault before now whole judges asks once = at_most_one w start.target task.intro entries before now whole once
+intro_asks_for w task start entries keys SigFault before now whole judges asks once = at_most_one w start.target task.intro entries before now whole once
+intro_asks_for w task start entries keys Memory before now whole judges asks once = at_most_one w start.target task.intro entries before now whole once
+intro_asks_for w task start entries keys KeepFault before now whole judges asks once = absurd judges
+intro_asks_for w task start entries keys (Name which what) before now whole judges asks once = absurd judges
+intro_asks_for w task start entries keys (Keyring fail) before now whole judges asks once = absurd judges
+intro_asks_for w task start entries keys (Cache fail) before now whole judges asks once = absurd judges
+intro_asks_for w task start entries keys TooMany before now whole judges asks once = absurd judges
+intro_asks_for w task start entries keys (OfObject id what) before now whole judges asks once = absurd judges
+intro_asks_for w task start entries keys (Cycle id) before now whole judges asks once = absurd judges
+intro_asks_for w task start entries keys (Unrelated target intro) before now whole judges asks once = absurd judges
+intro_asks_for w task start entries keys (Commit id why) before now whole judges asks once = absurd judges
 
 -- ---- the commits that aren't covered
 
@@ -251,14 +252,17 @@ summed n before mid now h k = omega arith
 one_once : (before mid : ℕ) → mid ≡ more 1 before → AtMostOnce before mid
 one_once before mid h = (omega arith, omega arith)
 
-module _ (w : World) (task : Task) (start : Start) (entries : List Id) (graph : History) (holds : HoldsHistory w start.target task.intro graph) (before mid now : ℕ) (intro : mid ≡ more 1 before) where
+module _ (w : World) (task : Task) (start : Start) (entries : List Id) (graph : History) (whole : IsWhole w start.target task.intro) (holds : HoldsHistory w start.target task.intro graph) (before mid now : ℕ) (intro : mid ≡ more 1 before) where
   behind_there : (id : Id) (front : List Id) → StandsBehind (IsParent graph.held) start.target task.intro entries id front → StandsBehind (history w) start.target task.intro entries id front
   behind_there id front behind = record { commits = behind.commits; uncovered = history_uncovered w start.target task.intro graph holds entries behind.commits behind.uncovered; rest = behind.rest; parts = behind.parts }
 
-  some_there : AsksSome (IsParent graph.held) start.target task.intro entries mid now → AsksAtMost (history w) start.target task.intro entries before now
-  some_there (inl same) = some_at_most (history w) start.target task.intro entries before mid now (one_once before mid intro) (inl same)
-  some_there (inr some) = some_at_most (history w) start.target task.intro entries before mid now (one_once before mid intro)
-      (inr (some.0, history_uncovered w start.target task.intro graph holds entries some.0 some.1, some.2))
+  some_there : AsksSome (IsParent graph.held) start.target task.intro entries mid now → AsksAtMost w start.target task.intro entries before now
+  some_there (inl same) = inr (whole, some_at_most (history w) start.target task.intro entries before mid now (one_once before mid intro) (inl same))
+  some_there (inr some) = inr (
+    whole,
+    some_at_most (history w) start.target task.intro entries before mid now (one_once before mid intro)
+        (inr (some.0, history_uncovered w start.target task.intro graph holds entries some.0 some.1, some.2)),
+  )
 
   pub decided_asks : (s : Scope) (keys : Keys) (older : Bool) (result : Result Verdict EngineFail) → JudgesNew w task s keys graph.held start.target entries older result
       → AsksNew w (IsParent graph.held) start.target task.intro entries result mid now → AsksFor w task start entries result before now

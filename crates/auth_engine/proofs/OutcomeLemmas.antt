@@ -33,7 +33,7 @@ use Rattle.auth_engine.specs.declared.engine_fail.EngineFail.TheVariants.{Name, 
 use Rattle.auth_engine.specs.Answers.{OnFinding, Gives}
 use Rattle.auth_engine.specs.Authentic.{IsAuthentic, IsFirstRefused}
 use Rattle.auth_engine.specs.Judging.{FirstRefused}
-use Rattle.auth_engine.specs.Outcome.{pair_of, IsFinding, IsOutcome, HasAuthenticTarget}
+use Rattle.auth_engine.specs.Outcome.{pair_of, IsVerdict, IsFinding, IsOutcome, IsVerdictOver, HasAuthenticTarget}
 use Rattle.auth_engine.specs.SoundCache.{IsSoundEntry, IsSoundValue, HasSoundEntries, IsSoundCache, IsSoundOrNone}
 use Rattle.auth_engine.specs.Starting.{target_of, intro_of, ring_of, start_of, scope_of, world_in, entries_of, cached_of}
 use Rattle.auth_engine.specs.Steps.{engine_fail, Relates, store_of, JudgesWell, JudgesBadly, JudgesNew}
@@ -170,59 +170,70 @@ module _ (w : World) (task : Task) (start : Start) (graph : History) (whole : Is
   pub unrelated : Relates (IsParent graph.held) start.target task.intro None → IsFinding w task start entries (Err (Unrelated start.target task.intro))
   unrelated none = (whole, introduced, refl, refl, λ related. none (related_back related))
 
-  module _ (older : Bool) (relates : Relates (IsParent graph.held) start.target task.intro (Some older)) (sound : All (IsSoundEntry w (scope_of task start.ring) start.ring.keys) entries) where
+  module _ (older : Bool) (relates : Relates (IsParent graph.held) start.target task.intro (Some older)) where
     moved_new : (commits : List Id) → AreUncovered (IsParent graph.held) start.target task.intro entries commits → AreUncovered (history w) start.target task.intro entries commits
     moved_new commits new = history_uncovered w start.target task.intro graph holds entries commits new
 
-    cleared : (c : Id) → IsNew (history w) start.target task.intro c → IsCoveredByEntry (history w) start.target task.intro entries c → cause w (scope_of task start.ring) start.ring.keys c ≡ None
-    cleared c is entry = entry_clears w (scope_of task start.ring) start.ring.keys start.target entries whole sound c is entry
+    verdict_of : (verdict : Verdict) → JudgesWell w task (scope_of task start.ring) start.ring.keys graph.held start.target entries older verdict → IsVerdict w task start entries verdict
+    verdict_of verdict well =
+        let new = moved_new well.commits well.uncovered in
+        record {
+          target = well.target_is;
+          older = (
+            λ v. let o = relates.1.0 (subst IsTrue well.older_is v) in (there task.intro start.target o.0, o.1),
+            λ o. subst IsTrue (sym well.older_is) (relates.1.1 (intro_reaches start.target o.0, o.1)),
+          );
+          commits = well.commits;
+          signers = well.signers;
+          judged = new;
+          number = well.number;
+          signed = well.signed.signed;
+          tally = well.tally;
+          covered = λ covered. well.store_is ∙ nothing_to_keep (history w) start.target task.intro entries task (scope_of task start.ring) well.commits new covered;
+          stored = λ bare. well.store_is ∙ target_to_keep (history w) start.target task.intro entries task (scope_of task start.ring) well.commits new bare;
+          recorded = well.recorded;
+        }
 
-    accepted : (verdict : Verdict) → JudgesWell w task (scope_of task start.ring) start.ring.keys graph.held start.target entries older verdict → IsFinding w task start entries (Ok verdict)
-    accepted verdict well =
-        let new = moved_new well.commits well.uncovered in (
-          record {
-            whole = whole;
-            introduced = introduced;
-            related = related_there relates.0;
-            authorised = of_new (history w) start.target task.intro entries well.commits new (λ (d : Id). cause w (scope_of task start.ring) start.ring.keys d ≡ None) well.signed.causeless cleared;
-          },
-          record {
-            target = well.target_is;
-            older = (
-              λ v. let o = relates.1.0 (subst IsTrue well.older_is v) in (there task.intro start.target o.0, o.1),
-              λ o. subst IsTrue (sym well.older_is) (relates.1.1 (intro_reaches start.target o.0, o.1)),
-            );
-            commits = well.commits;
-            signers = well.signers;
-            judged = new;
-            number = well.number;
-            signed = well.signed.signed;
-            tally = well.tally;
-            covered = λ covered. well.store_is ∙ nothing_to_keep (history w) start.target task.intro entries task (scope_of task start.ring) well.commits new covered;
-            stored = λ bare. well.store_is ∙ target_to_keep (history w) start.target task.intro entries task (scope_of task start.ring) well.commits new bare;
-            recorded = well.recorded;
-          },
-        )
+    -- whatever the entries are worth, an accepted target has a verdict
+    pub verdict_found : (result : Result Verdict EngineFail) → JudgesNew w task (scope_of task start.ring) start.ring.keys graph.held start.target entries older result
+        → IfOk result (IsVerdict w task start entries)
+    verdict_found (Ok verdict) well = verdict_of verdict well
+    verdict_found (Err fail) judged = tt
 
-    refused : (id : Id) (why : Cause) → JudgesBadly w (scope_of task start.ring) start.ring.keys graph.held start.target entries id why → IsFinding w task start entries (Err (Commit id why))
-    refused id why bad = (whole, introduced, related_there relates.0, first_refused w (scope_of task start.ring) start.ring.keys start.target entries whole sound bad.commits id why (moved_new bad.commits bad.uncovered) bad.first)
+    module _ (sound : All (IsSoundEntry w (scope_of task start.ring) start.ring.keys) entries) where
+      cleared : (c : Id) → IsNew (history w) start.target task.intro c → IsCoveredByEntry (history w) start.target task.intro entries c → cause w (scope_of task start.ring) start.ring.keys c ≡ None
+      cleared c is entry = entry_clears w (scope_of task start.ring) start.ring.keys start.target entries whole sound c is entry
 
-    pub found : (result : Result Verdict EngineFail) → JudgesNew w task (scope_of task start.ring) start.ring.keys graph.held start.target entries older result
-        → OnFinding result (IsFinding w task start entries result)
-    found (Ok verdict) well = accepted verdict well
-    found (Err (Commit id why)) bad = refused id why bad
-    found (Err GitFault) judged = tt
-    found (Err SigFault) judged = tt
-    found (Err Memory) judged = tt
-    found (Err (Name which what)) judged = absurd judged
-    found (Err (Keyring fail)) judged = absurd judged
-    found (Err (Cache fail)) judged = absurd judged
-    found (Err KeepFault) judged = absurd judged
-    found (Err TooMany) judged = absurd judged
-    found (Err (OfObject id what)) judged = absurd judged
-    found (Err (Cycle id)) judged = absurd judged
-    found (Err (Intro id why)) judged = absurd judged
-    found (Err (Unrelated target intro)) judged = absurd judged
+      accepted : (verdict : Verdict) → JudgesWell w task (scope_of task start.ring) start.ring.keys graph.held start.target entries older verdict → IsFinding w task start entries (Ok verdict)
+      accepted verdict well = (
+        record {
+          whole = whole;
+          introduced = introduced;
+          related = related_there relates.0;
+          authorised = of_new (history w) start.target task.intro entries well.commits (moved_new well.commits well.uncovered) (λ (d : Id). cause w (scope_of task start.ring) start.ring.keys d ≡ None) well.signed.causeless cleared;
+        },
+        verdict_of verdict well,
+      )
+
+      refused : (id : Id) (why : Cause) → JudgesBadly w (scope_of task start.ring) start.ring.keys graph.held start.target entries id why → IsFinding w task start entries (Err (Commit id why))
+      refused id why bad = (whole, introduced, related_there relates.0, first_refused w (scope_of task start.ring) start.ring.keys start.target entries whole sound bad.commits id why (moved_new bad.commits bad.uncovered) bad.first)
+
+      pub found : (result : Result Verdict EngineFail) → JudgesNew w task (scope_of task start.ring) start.ring.keys graph.held start.target entries older result
+          → OnFinding result (IsFinding w task start entries result)
+      found (Ok verdict) well = accepted verdict well
+      found (Err (Commit id why)) bad = refused id why bad
+      found (Err GitFault) judged = tt
+      found (Err SigFault) judged = tt
+      found (Err Memory) judged = tt
+      found (Err (Name which what)) judged = absurd judged
+      found (Err (Keyring fail)) judged = absurd judged
+      found (Err (Cache fail)) judged = absurd judged
+      found (Err KeepFault) judged = absurd judged
+      found (Err TooMany) judged = absurd judged
+      found (Err (OfObject id what)) judged = absurd judged
+      found (Err (Cycle id)) judged = absurd judged
+      found (Err (Intro id why)) judged = absurd judged
+      found (Err (Unrelated target intro)) judged = absurd judged
 
 -- ---- the whole task
 
@@ -280,6 +291,15 @@ pub finding_outcome : (rows : List GitRow) (sigs : List SigRow) (task : Task) (k
 finding_outcome rows sigs task kept start entries result begins cached finding =
     subst (λ (s : Result Start EngineFail). MatchResult s (FindsUnder rows sigs task kept result) (λ why. result ≡ Err why)) begins
     (subst (λ (c : Result (List Id) CacheFail). MatchResult c (λ entries. IsFinding (world_in rows sigs task start.ring) task start entries result) (λ fail. result ≡ Err (Cache fail))) cached finding)
+
+-- the verdict under a start is that over what is kept
+pub verdict_over : (rows : List GitRow) (sigs : List SigRow) (task : Task) (kept : Option (List ℕ)) (start : Start) (entries : List Id) (result : Result Verdict EngineFail)
+    → Ok start ≡ start_of rows task → Ok entries ≡ entries_of (scope_of task start.ring) kept
+    → IfOk result (IsVerdict (world_in rows sigs task start.ring) task start entries) → IfOk result (IsVerdictOver rows sigs task kept)
+verdict_over rows sigs task kept start entries (Err fail) begins cached is = tt
+verdict_over rows sigs task kept start entries (Ok verdict) begins cached is =
+    subst (λ (s : Result Start EngineFail). MatchResult s (λ start. MatchResult (entries_of (scope_of task start.ring) kept) (λ entries. IsVerdict (world_in rows sigs task start.ring) task start entries verdict) (λ _. ⊥)) (λ _. ⊥)) begins
+    (subst (λ (c : Result (List Id) CacheFail). MatchResult c (λ entries. IsVerdict (world_in rows sigs task start.ring) task start entries verdict) (λ _. ⊥)) cached is)
 
 -- what is kept gives these entries
 pub cached_ok : (entries : List Id) (v : Result (List Id) CacheFail) → ◌≡◌ {A = Result (List Id) EngineFail} (Ok entries) (result_map_both (λ (entries : List Id). entries) Cache v) → Ok entries ≡ v

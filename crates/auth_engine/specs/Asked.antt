@@ -6,7 +6,7 @@ use Rattle.child_ports.specs.declared.sig.SigRow.{SigRow}
 use Rattle.commit_graph.specs.Covers.{Parenthood, AreUncovered}
 use Rattle.auth_rules.specs.Answers.{is_intro_asked}
 use Rattle.auth_rules.specs.World.{World, Id}
-use Rattle.commit_history.specs.Members.{history}
+use Rattle.commit_history.specs.Members.{history, IsWhole}
 use Rattle.auth_engine.specs.declared.task.Task.{Task}
 use Rattle.auth_engine.specs.declared.task.Verdict.{Verdict}
 use Rattle.auth_engine.specs.declared.starting.Start.{Start}
@@ -38,9 +38,10 @@ abbrev pub AsksSome : Parenthood → Id → Id → List Id → ℕ → ℕ → T
 AsksSome IsParent target intro entries before now =
     (now ≡ before) ⊎ ((commits : List Id) × AreUncovered IsParent target intro entries commits × AskedAtMost (length commits) before now)
 
--- at most one question was asked, and one for each uncovered commit
-abbrev pub AsksAtMost : Parenthood → Id → Id → List Id → ℕ → ℕ → Type 0
-AsksAtMost IsParent target intro entries before now = (commits : List Id) → AreUncovered IsParent target intro entries commits → AskedAtMost (1 + length commits) before now
+-- No question was asked; or the history can be judged, and at most one was asked, and one for each uncovered commit.
+abbrev pub AsksAtMost : World → Id → Id → List Id → ℕ → ℕ → Type 0
+AsksAtMost w target intro entries before now = (now ≡ before)
+    ⊎ (IsWhole w target intro × ((commits : List Id) → AreUncovered (history w) target intro entries commits → AskedAtMost (1 + length commits) before now))
 
 -- one question was asked for each uncovered commit; where one is refused, for each before it, and for it where one was due
 abbrev pub AsksNew : World → Parenthood → Id → Id → List Id → Result Verdict EngineFail → ℕ → ℕ → Type 0
@@ -57,10 +58,10 @@ AsksFor w task start entries (Err (Commit id why)) before now =
     (front : List Id) × StandsBehind (history w) start.target task.intro entries id front × (now ≡ more (1 + (length front + questions w id)) before)
 AsksFor w task start entries (Err (Unrelated target intro)) before now = now ≡ more 1 before
 AsksFor w task start entries (Err (Intro id why)) before now = now ≡ more (intro_questions w task.intro) before
-AsksFor w task start entries (Err GitFault) before now = AsksAtMost (history w) start.target task.intro entries before now
-AsksFor w task start entries (Err SigFault) before now = AsksAtMost (history w) start.target task.intro entries before now
+AsksFor w task start entries (Err GitFault) before now = AsksAtMost w start.target task.intro entries before now
+AsksFor w task start entries (Err SigFault) before now = AsksAtMost w start.target task.intro entries before now
 AsksFor w task start entries (Err KeepFault) before now = now ≡ before
-AsksFor w task start entries (Err Memory) before now = AsksAtMost (history w) start.target task.intro entries before now
+AsksFor w task start entries (Err Memory) before now = AsksAtMost w start.target task.intro entries before now
 AsksFor w task start entries (Err _) before now = now ≡ before
 
 -- the questions that the answer to a task took

@@ -90,3 +90,12 @@ IsOutcome rows sigs task kept result = MatchResult (start_of rows task)
     (λ entries. IsFinding (world_in rows sigs task start.ring) task start entries result)
     (λ fail. result ≡ Err (Cache fail)))
     (λ fail. result ≡ Err fail)
+
+-- The verdict on a task, whatever is kept for it, sound or not: what was judged over the entries that were read, and what is to be
+-- kept.
+abbrev pub IsVerdictOver : List GitRow → List SigRow → Task → Option (List ℕ) → Verdict → Type 0
+IsVerdictOver rows sigs task kept verdict = MatchResult (start_of rows task)
+    (λ start. MatchResult (entries_of (scope_of task start.ring) kept)
+    (λ entries. IsVerdict (world_in rows sigs task start.ring) task start entries verdict)
+    (λ _. ⊥))
+    (λ _. ⊥)

@@ -14,7 +14,8 @@ use Rattle.auth_engine.specs.Starting.{ring_of, world_in, scope_of, entries_of}
 abbrev pub IsSoundEntry : World → Scope → Keys → Id → Type 0
 IsSoundEntry w s keys entry = (w.commit entry ≡ Err Missing) ⊎ IsAuthentic w s keys entry
 
--- what is kept is a cache text, and each entry that it has for the scope is sound. Nothing that is kept is sound too.
+-- what is kept is a cache text, and each entry that it has for the scope is sound. A cache in which nothing is
+-- kept is sound as well.
 abbrev pub IsSoundValue : World → Scope → Keys → Option (List ℕ) → Type 0
 IsSoundValue w s keys kept = MatchResult (entries_of s kept) (All (IsSoundEntry w s keys)) (λ _. ⊥)
 

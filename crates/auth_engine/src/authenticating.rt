@@ -1,11 +1,12 @@
 //! The check of one target.
-ghost use Rattle.std.specs.Prelude.{◌≡◌, ◌↔◌, IsOk, IsTrue, false};
+ghost use Rattle.std.specs.Prelude.{◌≡◌, ◌↔◌, ◌+◌, length, IsOk, IfOk, IsTrue, false};
 ghost use Rattle.std.specs.FinMap as map;
 ghost use Rattle.child_ports.specs.Causes.{RoseWhen};
+ghost use Rattle.child_ports.specs.Named.{NamedAtMost};
 ghost use Rattle.auth_engine.specs.Answers.{OnFinding, is_git_fault, is_sig_fault, is_keep_fault};
 ghost use Rattle.auth_engine.specs.Asked.{Asks};
 ghost use Rattle.auth_engine.specs.Limits.{task_fits};
-ghost use Rattle.auth_engine.specs.Outcome.{HasAuthenticTarget, IsOutcome};
+ghost use Rattle.auth_engine.specs.Outcome.{HasAuthenticTarget, IsOutcome, IsVerdictOver};
 ghost use Rattle.auth_engine.specs.SoundCache.{IsSoundCache, IsSoundOrNone};
 
 use crate::caching::load_entries;
@@ -30,6 +31,8 @@ fn check<G: GitPort, V: SigPort, K: Keeper>(
         let kept = map.get (K.kept keeper.old) task.now.cache_key in
         IsSoundOrNone (G.table git.old) (V.table sig.old) task.now kept →
         OnFinding result (IsOutcome (G.table git.old) (V.table sig.old) task.now kept result) }
+    ensures verdict { IsTrue (G.tells git.old) → IsTrue (V.tells sig.old) → IsTrue (K.tells keeper.old) →
+        IfOk result (IsVerdictOver (G.table git.old) (V.table sig.old) task.now (map.get (K.kept keeper.old) task.now.cache_key)) }
     ensures asked { IsTrue (G.tells git.old) → IsTrue (V.tells sig.old) → IsTrue (K.tells keeper.old) →
         Asks (G.table git.old) (V.table sig.old) task.now (map.get (K.kept keeper.old) task.now.cache_key) result (V.asked sig.old) (V.asked sig.new) }
     ensures git_fault { RoseWhen (is_git_fault result) (G.faults git.old) (G.faults git.new) }
@@ -37,6 +40,7 @@ fn check<G: GitPort, V: SigPort, K: Keeper>(
     ensures keep_fault { RoseWhen (is_keep_fault result) (K.faults keeper.old) (K.faults keeper.new) }
     ensures git_told { G.tells git.new ≡ G.tells git.old }
     ensures git_table { G.table git.new ≡ G.table git.old }
+    ensures named { NamedAtMost (length task.now.target + length task.now.keyring) (G.named git.old) (G.named git.new) }
     ensures sig_told { V.tells sig.new ≡ V.tells sig.old }
     ensures sig_table { V.table sig.new ≡ V.table sig.old }
     ensures keeper_told { K.tells keeper.new ≡ K.tells keeper.old }
@@ -77,10 +81,18 @@ pub fn authenticate<G: GitPort, V: SigPort, K: Keeper>(
         IsSoundOrNone (G.table git.old) (V.table sig.old) task.now kept →
         OnFinding result (IsOutcome (G.table git.old) (V.table sig.old) task.now kept result) }
 
+    // Whatever is kept, sound or not, an accepted target has a verdict on what was judged, and only what that says is to be kept.
+    ensures verdict { IsTrue (G.tells git.old) → IsTrue (V.tells sig.old) → IsTrue (K.tells keeper.old) →
+        IfOk result (IsVerdictOver (G.table git.old) (V.table sig.old) task.now (map.get (K.kept keeper.old) task.now.cache_key)) }
+
     // The questions to gpgv, whatever is kept: one for the introduction, and one for each commit that isn't covered, up to the
     // first that is refused.
     ensures asked { IsTrue (G.tells git.old) → IsTrue (V.tells sig.old) → IsTrue (K.tells keeper.old) →
         Asks (G.table git.old) (V.table sig.old) task.now (map.get (K.kept keeper.old) task.now.cache_key) result (V.asked sig.old) (V.asked sig.new) }
+
+    // Any name but an id in full can come to stand for something else. Whatever the answer, no more such names are asked than
+    // the task has: what is told of target and keyring comes from the question that was judged.
+    ensures named { NamedAtMost (length task.now.target + length task.now.keyring) (G.named git.old) (G.named git.new) }
 
     // A fault of a port comes exactly where a call on it failed.
     ensures git_fault { RoseWhen (is_git_fault result) (G.faults git.old) (G.faults git.new) }

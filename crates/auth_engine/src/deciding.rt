@@ -10,7 +10,7 @@ ghost use Rattle.auth_rules.specs.Answers.{ListsParents};
 ghost use Rattle.auth_rules.specs.World.{world_of};
 ghost use Rattle.auth_engine.specs.Answers.{OnFinding, is_git_fault, is_sig_fault, is_keep_fault};
 ghost use Rattle.auth_engine.specs.Asked.{AsksNew, AsksFor};
-ghost use Rattle.auth_engine.specs.Outcome.{IsFinding};
+ghost use Rattle.auth_engine.specs.Outcome.{IsFinding, IsVerdict};
 ghost use Rattle.auth_engine.specs.SoundCache.{IsSoundEntry};
 ghost use Rattle.auth_engine.specs.Starting.{scope_of, world_in};
 ghost use Rattle.auth_engine.specs.Steps.{JudgesNew, store_of};
@@ -86,6 +86,7 @@ fn judge_new<G: GitPort, V: SigPort>(
     ensures no_keep_fault { is_keep_fault result ≡ false }
     ensures git_told { G.tells git.new ≡ G.tells git.old }
     ensures git_table { G.table git.new ≡ G.table git.old }
+    ensures named { G.named git.new ≡ G.named git.old }
     ensures sig_told { V.tells sig.new ≡ V.tells sig.old }
     ensures sig_table { V.table sig.new ≡ V.table sig.old }
 {
@@ -126,6 +127,10 @@ pub fn decide<G: GitPort, V: SigPort>(
         IsWhole w start.now.target task.now.intro → HoldsHistory w start.now.target task.now.intro graph.old →
         All (IsSoundEntry w scope.now start.now.ring.keys) entries.now →
         OnFinding result (IsFinding w task.now start.now entries.now result) }
+    ensures verdict { IsTrue (G.tells git.old) → IsTrue (V.tells sig.old) →
+        let w = world_in (G.table git.old) (V.table sig.old) task.now start.now.ring in
+        IsWhole w start.now.target task.now.intro → HoldsHistory w start.now.target task.now.intro graph.old →
+        IfOk result (IsVerdict w task.now start.now entries.now) }
     ensures asked { IsTrue (G.tells git.old) → IsTrue (V.tells sig.old) →
         let w = world_in (G.table git.old) (V.table sig.old) task.now start.now.ring in
         IsWhole w start.now.target task.now.intro → HoldsHistory w start.now.target task.now.intro graph.old →
@@ -135,6 +140,7 @@ pub fn decide<G: GitPort, V: SigPort>(
     ensures no_keep_fault { is_keep_fault result ≡ false }
     ensures git_told { G.tells git.new ≡ G.tells git.old }
     ensures git_table { G.table git.new ≡ G.table git.old }
+    ensures named { G.named git.new ≡ G.named git.old }
     ensures sig_told { V.tells sig.new ≡ V.tells sig.old }
     ensures sig_table { V.table sig.new ≡ V.table sig.old }
 {

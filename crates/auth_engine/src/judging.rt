@@ -38,6 +38,7 @@ fn judge_commit<G: GitPort, V: SigPort>(
     ensures no_keep_fault { is_keep_fault result ≡ false }
     ensures git_told { G.tells git.new ≡ G.tells git.old }
     ensures git_table { G.table git.new ≡ G.table git.old }
+    ensures named { G.named git.new ≡ G.named git.old }
     ensures sig_told { V.tells sig.new ≡ V.tells sig.old }
     ensures sig_table { V.table sig.new ≡ V.table sig.old }
     ensures loaded { V.loaded sig.new ≡ V.loaded sig.old }
@@ -86,6 +87,7 @@ pub fn judge_commits<G: GitPort, V: SigPort>(
 
     ensures git_told { G.tells git.new ≡ G.tells git.old }
     ensures git_table { G.table git.new ≡ G.table git.old }
+    ensures named { G.named git.new ≡ G.named git.old }
     ensures sig_told { V.tells sig.new ≡ V.tells sig.old }
     ensures sig_table { V.table sig.new ≡ V.table sig.old }
     ensures loaded { V.loaded sig.new ≡ V.loaded sig.old }

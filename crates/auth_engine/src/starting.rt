@@ -1,13 +1,14 @@
 //! What a task needs before its history is read: target, introduction and keyring.
-ghost use Rattle.std.specs.Prelude.{◌≡◌, IsTrue, false};
+ghost use Rattle.std.specs.Prelude.{◌≡◌, ◌+◌, length, IsTrue, false};
 ghost use Rattle.std.specs.List.{AllByRecursion};
 ghost use Rattle.child_ports.specs.Causes.{RoseWhen};
 ghost use Rattle.child_ports.specs.Git.{IsName};
+ghost use Rattle.child_ports.specs.Named.{NamedAtMost};
 ghost use Rattle.auth_engine.specs.Starting.{target_of, intro_of, ring_of, start_of};
 ghost use Rattle.auth_engine.specs.Answers.{Gives, is_git_fault, is_sig_fault, is_keep_fault};
 ghost use Rattle.auth_engine.specs.Limits.{task_fits};
 
-use crate::naming::{name_commit, name_first_commit};
+use crate::naming::{commit_by_id, name_first_commit};
 use crate::{EngineFail, Task, Which};
 use child_ports::{GitPort, PortFail};
 use keyring_branch::{Keyring, KeyringFail, read_keyring};
@@ -26,6 +27,7 @@ fn find_target<G: GitPort>(alloc: Global, git: &mut G, task: &Task) -> Result<Ob
     requires { AllByRecursion IsName task.now.target }
     ensures told { G.tells git.new ≡ G.tells git.old }
     ensures table { G.table git.new ≡ G.table git.old }
+    ensures named { NamedAtMost (length task.now.target) (G.named git.old) (G.named git.new) }
     ensures target { IsTrue (G.tells git.old) → Gives result (target_of (G.table git.old) task.now) }
     ensures git_fault { RoseWhen (is_git_fault result) (G.faults git.old) (G.faults git.new) }
     ensures no_sig_fault { is_sig_fault result ≡ false }
@@ -46,14 +48,13 @@ fn find_target<G: GitPort>(alloc: Global, git: &mut G, task: &Task) -> Result<Ob
 fn find_intro<G: GitPort>(alloc: Global, git: &mut G, task: &Task) -> Result<Object, EngineFail>
     ensures told { G.tells git.new ≡ G.tells git.old }
     ensures table { G.table git.new ≡ G.table git.old }
+    ensures named { G.named git.new ≡ G.named git.old }
     ensures intro { IsTrue (G.tells git.old) → Gives result (intro_of (G.table git.old) task.now) }
     ensures git_fault { RoseWhen (is_git_fault result) (G.faults git.old) (G.faults git.new) }
     ensures no_sig_fault { is_sig_fault result ≡ false }
     ensures no_keep_fault { is_keep_fault result ≡ false }
 {
-    let mut name = [0u8; 40];
-    task.intro.write_hex(&mut name);
-    match name_commit(alloc, git, task.dir.as_str(), &name) {
+    match commit_by_id(alloc, git, task.dir.as_str(), &task.intro) {
         Ok(Ok(object)) => Ok(object),
         Ok(Err(what)) => Err(EngineFail::Name {
             which: Which::Introduction,
@@ -69,6 +70,7 @@ fn find_ring<G: GitPort>(alloc: Global, git: &mut G, task: &Task) -> Result<Keyr
     requires { AllByRecursion IsName task.now.keyring }
     ensures told { G.tells git.new ≡ G.tells git.old }
     ensures table { G.table git.new ≡ G.table git.old }
+    ensures named { NamedAtMost (length task.now.keyring) (G.named git.old) (G.named git.new) }
     ensures ring { IsTrue (G.tells git.old) → Gives result (ring_of (G.table git.old) task.now) }
     ensures git_fault { RoseWhen (is_git_fault result) (G.faults git.old) (G.faults git.new) }
     ensures no_sig_fault { is_sig_fault result ≡ false }
@@ -87,6 +89,7 @@ pub fn find_start<G: GitPort>(alloc: Global, git: &mut G, task: &Task) -> Result
     requires fits { IsTrue (task_fits task.now) }
     ensures told { G.tells git.new ≡ G.tells git.old }
     ensures table { G.table git.new ≡ G.table git.old }
+    ensures named { NamedAtMost (length task.now.target + length task.now.keyring) (G.named git.old) (G.named git.new) }
     ensures start { IsTrue (G.tells git.old) → Gives result (start_of (G.table git.old) task.now) }
     ensures git_fault { RoseWhen (is_git_fault result) (G.faults git.old) (G.faults git.new) }
     ensures no_sig_fault { is_sig_fault result ≡ false }

@@ -49,6 +49,7 @@ pub fn check_commit<G: GitPort, V: SigPort>(
 
     ensures git_told { G.tells git.new ≡ G.tells git.old }
     ensures git_table { G.table git.new ≡ G.table git.old }
+    ensures named { G.named git.new ≡ G.named git.old }
     ensures sig_told { V.tells sig.new ≡ V.tells sig.old }
     ensures sig_table { V.table sig.new ≡ V.table sig.old }
     ensures loaded { V.loaded sig.new ≡ V.loaded sig.old }
@@ -101,6 +102,7 @@ pub fn check_intro<G: GitPort, V: SigPort>(
 
     ensures git_told { G.tells git.new ≡ G.tells git.old }
     ensures git_table { G.table git.new ≡ G.table git.old }
+    ensures named { G.named git.new ≡ G.named git.old }
     ensures sig_told { V.tells sig.new ≡ V.tells sig.old }
     ensures sig_table { V.table sig.new ≡ V.table sig.old }
     ensures loaded { V.loaded sig.new ≡ V.loaded sig.old }

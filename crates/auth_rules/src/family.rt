@@ -34,6 +34,7 @@ pub fn read_family<G: GitPort>(
 ) -> Result<Family, RuleFail>
     ensures told { G.tells git.new ≡ G.tells git.old }
     ensures table { G.table git.new ≡ G.table git.old }
+    ensures named { G.named git.new ≡ G.named git.old }
     ensures exact { IsTrue (G.tells git.old) → Gives result (family_of (git_world (G.table git.old) dir.now) (parents_in graph.now.held) id) }
     ensures git_fault { RoseWhen (is_git_fault result) (G.faults git.old) (G.faults git.new) }
     ensures no_sig_fault { is_sig_fault result ≡ false }

@@ -56,6 +56,7 @@ fn any_has_file<G: GitPort>(
 ) -> Result<bool, RuleFail>
     ensures told { G.tells git.new ≡ G.tells git.old }
     ensures table { G.table git.new ≡ G.table git.old }
+    ensures named { G.named git.new ≡ G.named git.old }
     ensures exact { IsTrue (G.tells git.old) → Gives result (any_of (git_world (G.table git.old) dir.now) ids.now) }
     ensures git_fault { RoseWhen (is_git_fault result) (G.faults git.old) (G.faults git.new) }
     ensures no_sig_fault { is_sig_fault result ≡ false }
@@ -77,6 +78,7 @@ fn read_listing<G: GitPort>(
 ) -> Result<Offer, RuleFail>
     ensures told { G.tells git.new ≡ G.tells git.old }
     ensures table { G.table git.new ≡ G.table git.old }
+    ensures named { G.named git.new ≡ G.named git.old }
     ensures exact { IsTrue (G.tells git.old) → Gives result (listing_offer (git_world (G.table git.old) dir.now) blob) }
     ensures git_fault { RoseWhen (is_git_fault result) (G.faults git.old) (G.faults git.new) }
     ensures no_sig_fault { is_sig_fault result ≡ false }
@@ -99,6 +101,7 @@ fn read_offer<G: GitPort>(
 ) -> Result<Offer, RuleFail>
     ensures told { G.tells git.new ≡ G.tells git.old }
     ensures table { G.table git.new ≡ G.table git.old }
+    ensures named { G.named git.new ≡ G.named git.old }
     ensures exact { IsTrue (G.tells git.old) → Gives result (offer_of (git_world (G.table git.old) dir.now) (parents_in graph.now.held id) file) }
     ensures git_fault { RoseWhen (is_git_fault result) (G.faults git.old) (G.faults git.new) }
     ensures no_sig_fault { is_sig_fault result ≡ false }
@@ -125,6 +128,7 @@ fn read_parent<G: GitPort>(
 ) -> Result<Parent, RuleFail>
     ensures told { G.tells git.new ≡ G.tells git.old }
     ensures table { G.table git.new ≡ G.table git.old }
+    ensures named { G.named git.new ≡ G.named git.old }
     ensures exact { IsTrue (G.tells git.old) → Gives result (parent_of (git_world (G.table git.old) dir.now) (parents_in graph.now.held) id) }
     ensures git_fault { RoseWhen (is_git_fault result) (G.faults git.old) (G.faults git.new) }
     ensures no_sig_fault { is_sig_fault result ≡ false }
@@ -144,6 +148,7 @@ pub fn read_parents<G: GitPort>(
 ) -> Result<Parents, RuleFail>
     ensures told { G.tells git.new ≡ G.tells git.old }
     ensures table { G.table git.new ≡ G.table git.old }
+    ensures named { G.named git.new ≡ G.named git.old }
     ensures exact { IsTrue (G.tells git.old) → Gives result (parents_read (git_world (G.table git.old) dir.now) (parents_in graph.now.held) ids.now) }
     ensures git_fault { RoseWhen (is_git_fault result) (G.faults git.old) (G.faults git.new) }
     ensures no_sig_fault { is_sig_fault result ≡ false }

@@ -9,7 +9,7 @@ use crate::{ReadFail, What};
 use authorizations::{AuthFail, KeySet, read_authorizations};
 use child_ports::{Bytes, GitPort};
 use commit_objects::{Commit, CommitFail, read_commit};
-use object_frames::{Fetched, FrameFail, Id, Kind, fetch};
+use object_frames::{Fetched, FrameFail, Id, Kind, fetch_by_id};
 use std::alloc::Global;
 use tree_entries::{Entry, TreeFail, find};
 
@@ -32,12 +32,11 @@ pub fn read_content<G: GitPort>(
 ) -> Result<Bytes, ReadFail>
     ensures told { G.tells git.new ≡ G.tells git.old }
     ensures table { G.table git.new ≡ G.table git.old }
+    ensures named { G.named git.new ≡ G.named git.old }
     ensures exact { IsTrue (G.tells git.old) → Reads result (content_at (G.table git.old) dir.now wanted limit id) }
     ensures cause { RoseWhen (is_read_fault result) (G.faults git.old) (G.faults git.new) }
 {
-    let mut name = [0u8; 40];
-    id.write_hex(&mut name);
-    match fetch(alloc, git, dir, &name, limit) {
+    match fetch_by_id(alloc, git, dir, &id, limit) {
         Ok(Fetched::Missing) => Err(ReadFail::Unreadable(What::Missing)),
         Ok(Fetched::Found(object)) => {
             if is_kind(object.kind, wanted) {
@@ -61,6 +60,7 @@ pub fn read_commit_at<G: GitPort>(
 ) -> Result<Commit, ReadFail>
     ensures told { G.tells git.new ≡ G.tells git.old }
     ensures table { G.table git.new ≡ G.table git.old }
+    ensures named { G.named git.new ≡ G.named git.old }
     // It is what git's answer stands for, unless a call failed or memory is wanting.
     ensures exact { IsTrue (G.tells git.old) → Reads result (commit_at (G.table git.old) dir.now id) }
     // A fault comes exactly where a call of git failed.
@@ -107,6 +107,7 @@ pub fn read_file_at<G: GitPort>(
 ) -> Result<Option<Id>, ReadFail>
     ensures told { G.tells git.new ≡ G.tells git.old }
     ensures table { G.table git.new ≡ G.table git.old }
+    ensures named { G.named git.new ≡ G.named git.old }
     ensures exact { IsTrue (G.tells git.old) → Reads result (file_at (G.table git.old) dir.now id) }
     ensures cause { RoseWhen (is_read_fault result) (G.faults git.old) (G.faults git.new) }
 {
@@ -123,6 +124,7 @@ pub fn read_listing_at<G: GitPort>(
 ) -> Result<Result<KeySet, AuthFail>, ReadFail>
     ensures told { G.tells git.new ≡ G.tells git.old }
     ensures table { G.table git.new ≡ G.table git.old }
+    ensures named { G.named git.new ≡ G.named git.old }
     ensures exact { IsTrue (G.tells git.old) → Reads result (listing_at (G.table git.old) dir.now id) }
     ensures cause { RoseWhen (is_read_fault result) (G.faults git.old) (G.faults git.new) }
 {

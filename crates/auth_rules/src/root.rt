@@ -39,6 +39,7 @@ pub fn read_root<G: GitPort>(
 ) -> Result<Root, RuleFail>
     ensures told { G.tells git.new ≡ G.tells git.old }
     ensures table { G.table git.new ≡ G.table git.old }
+    ensures named { G.named git.new ≡ G.named git.old }
     ensures exact { IsTrue (G.tells git.old) → Gives result (root_of (git_world (G.table git.old) dir.now) id) }
     ensures git_fault { RoseWhen (is_git_fault result) (G.faults git.old) (G.faults git.new) }
     ensures no_sig_fault { is_sig_fault result ≡ false }

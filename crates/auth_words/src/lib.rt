@@ -2,7 +2,7 @@
 //!
 //! [`read_words`] gives the command, or none. `specs/Words.antt` says which command words state: begin there.
 //! `specs/Form.antt` says what one word is and `specs/Arguments.antt` how words are read from left to right, for any command;
-//! `specs/Grammars.antt` has the options and flags of each, and `specs/Limits.antt` what values may be.
+//! `specs/Grammars.antt` has the options and flags of each. What values may be is said in `specs/Limits.antt` of `name_limits`.
 //!
 //! The words are cut by clap. That it reads them by this rule, and no others, is proved: `proofs/SameLemmas.antt` goes with
 //! clap's walk from word to word, and `proofs/TakenLemmas.antt` has what its matches then give. Both hold of any command of which

@@ -1,3 +1,4 @@
 pub mod PlanRunLemmas
+pub mod StoreLemmas
 pub mod TaskLemmas
 pub mod TaskRunLemmas

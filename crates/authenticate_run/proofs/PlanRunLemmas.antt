@@ -1,7 +1,6 @@
 -- A run of a plan: its file, and then its task.
-use Rattle.std.proofs.Common.{◌≡◌, ◌≢◌, ◌⊎◌, inl, inr, ℕ, List, Option, Some, None, option_map, Result, Ok, Err, refl, sym, ap, ◌∙◌, subst, arith}
+use Rattle.std.proofs.Common.{◌≡◌, ◌⊎◌, inl, inr, ℕ, List, Option, Some, option_map, Result, Ok, Err, refl, sym, ap, subst}
 use Rattle.std.specs.Prelude.{IfOk, IfErr, IsOk, MatchResult}
-use Rattle.child_ports.specs.Causes.{Rose, Stayed}
 use Rattle.child_ports.specs.Keeper.{Kept}
 use Rattle.child_ports.specs.KeySet.{Keys}
 use Rattle.auth_engine.specs.declared.engine_fail.EngineFail.TheVariants.{Memory}
@@ -15,7 +14,7 @@ use Rattle.authenticate_run.specs.Answers.{file_refused, file_unread, path_line,
 use Rattle.run_answers.specs.Faults.{Counts}
 use Rattle.authenticate_run.specs.Historical.{keys_at}
 use Rattle.channel_deps.specs.Outside.{Outside}
-use Rattle.authenticate_run.specs.Outside.{task_for, keys_named, historical_of, OfKeys}
+use Rattle.authenticate_run.specs.Outside.{task_for, keys_named, historical_of}
 use Rattle.run_answers.specs.Ended.{Sunk, Stored, Shows, stored, IsItOrStopped, IsItOrUnread, TellsNone}
 use Rattle.authenticate_run.specs.Run.{IsAuthenticFor, TellsNoKeys, AsksAsTold, StopsUnasked, AsksFor}
 use Rattle.run_answers.specs.Shown.{IsPut}

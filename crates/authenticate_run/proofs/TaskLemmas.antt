@@ -1,12 +1,12 @@
 -- The task of a fitting plan keeps its limits.
-use Rattle.std.proofs.Common.{◌≡◌, ℕ, ◌+◌, ◌≤◌, Bool, true, ◌&&◌, List, [], ◌∷◌, ◌++◌, length, length-append, refl, sym, ap, ◌∙◌, codes, arith}
+use Rattle.std.proofs.Common.{◌≡◌, ℕ, ◌+◌, ◌≤◌, true, ◌&&◌, List, [], ◌∷◌, ◌++◌, length, length-append, refl, ◌∙◌, codes, arith}
 use Rattle.std.specs.Prelude.{nat_le}
 use Rattle.std.specs.Cmp.Derive.{both_true}
 use Rattle.std.proofs.lemmas.Bool.{and_parts}
 use Rattle.std.proofs.lemmas.Bool.Decides.{nat_tests}
 use Rattle.std.proofs.lemmas.List.Folds.{list_all-append}
 use Rattle.child_ports.specs.KeySet.{Keys}
-use Rattle.name_limits.specs.Limits.{is_plain_byte, are_plain, is_reference, is_askable, is_cache_key}
+use Rattle.name_limits.specs.Limits.{is_plain_byte, are_plain, is_reference, is_askable}
 use Rattle.auth_engine.specs.Limits.{are_askable, task_fits}
 use Rattle.auth_words.specs.declared.plan.Plan.{Plan}
 use Rattle.auth_words.specs.Words.{IsFitting}

@@ -1,19 +1,18 @@
 -- A run of one task, put together from its steps.
-use Rattle.std.proofs.Common.{◌≡◌, ◌≢◌, ◌⊎◌, inl, inr, ℕ, nat_eq, false, List, Result, Ok, Err, refl, sym, ap, ◌∙◌, subst, arith}
+use Rattle.std.proofs.Common.{◌≡◌, ◌≢◌, ◌⊎◌, inl, inr, ℕ, nat_eq, false, Result, Ok, Err, refl, ap}
 use Rattle.std.specs.Prelude.{IsOk, ◌↔◌}
 use Rattle.std.proofs.lemmas.Bool.{false≢true}
-use Rattle.child_ports.specs.Causes.{Rose, RoseWhen, Stayed}
-use Rattle.child_ports.specs.Keeper.{Kept}
+use Rattle.child_ports.specs.Causes.{RoseWhen}
 use Rattle.child_ports.specs.KeySet.{Keys}
 use Rattle.auth_engine.specs.declared.task.Verdict.{Verdict}
 use Rattle.auth_engine.specs.declared.engine_fail.EngineFail.{EngineFail}
 use Rattle.auth_engine.specs.declared.engine_fail.EngineFail.TheVariants.{Name, Keyring, Cache, TooMany, Object, Cycle, Intro, Unrelated, Commit, GitFault, SigFault, KeepFault, Memory}
 use Rattle.auth_engine.specs.Answers.{OnFinding, is_git_fault, is_sig_fault, is_keep_fault}
-use Rattle.auth_engine.specs.Outcome.{IsOutcome, HasAuthenticTarget}
+use Rattle.auth_engine.specs.Outcome.{IsOutcome}
 use Rattle.auth_report.specs.Texts.{refusal_line}
 use Rattle.auth_words.specs.declared.plan.Plan.{Plan}
-use Rattle.run_answers.specs.Answers.{Answer, status_of, refused, accepted, IsStopped}
-use Rattle.authenticate_run.specs.Answers.{answer_for, ending_of, IsDue}
+use Rattle.run_answers.specs.Answers.{Answer, status_of, refused}
+use Rattle.authenticate_run.specs.Answers.{ending_of, IsDue}
 use Rattle.run_answers.specs.Faults.{Counts, IsChildFault, IsEndFault, ends}
 use Rattle.channel_deps.specs.Outside.{Outside}
 use Rattle.authenticate_run.specs.Outside.{task_for, cache_in}

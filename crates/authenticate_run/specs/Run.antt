@@ -1,18 +1,18 @@
 -- What a run of `authenticate` comes to.
-use Rattle.std.specs.Prelude.{◌≡◌, ◌⊎◌, ℕ, Bool, false, nat_eq, List, Option, Some, Result, Ok, Err, MatchResult}
+use Rattle.std.specs.Prelude.{◌≡◌, ◌≢◌, ◌⊎◌, ℕ, Bool, false, nat_eq, List, Some, Result, Ok, Err, MatchResult}
 use Rattle.child_ports.specs.Keeper.{Kept}
 use Rattle.child_ports.specs.KeySet.{Keys}
 use Rattle.auth_engine.specs.declared.task.Verdict.{Verdict}
 use Rattle.auth_engine.specs.declared.engine_fail.EngineFail.{EngineFail}
 use Rattle.auth_engine.specs.Answers.{OnFinding}
 use Rattle.auth_engine.specs.Asked.{Asks}
-use Rattle.auth_engine.specs.Outcome.{IsOutcome, HasAuthenticTarget}
+use Rattle.auth_engine.specs.Outcome.{IsOutcome, IsVerdictOver, HasAuthenticTarget}
 use Rattle.auth_report.specs.declared.files.FileFail.TheVariants as file
 use Rattle.auth_report.specs.FileTexts.{file_line}
 use Rattle.auth_words.specs.declared.plan.Plan.{Plan}
 use Rattle.run_answers.specs.Answers.{status_of}
-use Rattle.run_answers.specs.Ended.{Sunk, TellsNone}
-use Rattle.authenticate_run.specs.Answers.{with_store}
+use Rattle.run_answers.specs.Ended.{Sunk, StoresOnce, TellsNone}
+use Rattle.authenticate_run.specs.Answers.{pairs_of, with_store}
 use Rattle.channel_deps.specs.Outside.{Outside}
 use Rattle.authenticate_run.specs.Outside.{task_for, historical_of, cache_in, HasSoundOrNone}
 
@@ -30,6 +30,26 @@ is_unread_status (Err status) = nat_eq status 5
 abbrev pub KeepsOrStores : Outside → Plan → Keys → Kept → Type 0
 KeepsOrStores o plan keys after = (after ≡ o.kept)
     ⊎ ((verdict : Verdict) × IsOutcome o.answers o.verdicts (task_for plan keys) (cache_in o.kept plan) (Ok verdict) × (after ≡ with_store o.kept verdict.store))
+
+-- Whatever is kept, sound or not, the records are those of before, or those with what the verdict over it has to be kept: the target
+-- before the entries that were read, at the plan's key.
+abbrev pub KeepsOrPuts : Outside → Plan → Keys → Kept → Type 0
+KeepsOrPuts o plan keys after = (after ≡ o.kept)
+    ⊎ ((verdict : Verdict) × IsVerdictOver o.answers o.verdicts (task_for plan keys) (cache_in o.kept plan) verdict × (after ≡ with_store o.kept verdict.store))
+
+-- the same by what the file of a plan gives: nothing is put where it gives no keys
+abbrev pub PutsFor : Outside → Kept → Plan → Kept → Type 0
+PutsFor o files plan after = MatchResult (historical_of files plan) (λ keys. KeepsOrPuts o plan keys after) (λ _. after ≡ o.kept)
+
+-- The store wasn't called, and the status isn't 0; or there is a verdict over what is kept, and it was called once where that has
+-- something to be kept, and else not.
+abbrev pub StoresVerdict : Outside → Plan → Keys → ℕ → ℕ → ℕ → Type 0
+StoresVerdict o plan keys status before now = ((now ≡ before) × (status ≢ 0))
+    ⊎ ((verdict : Verdict) × IsVerdictOver o.answers o.verdicts (task_for plan keys) (cache_in o.kept plan) verdict × StoresOnce (pairs_of verdict.store) before now)
+
+-- the same by what the file of a plan gives: the store isn't called where it gives no keys
+abbrev pub StoresFor : Outside → Kept → Plan → ℕ → ℕ → ℕ → Type 0
+StoresFor o files plan status before now = MatchResult (historical_of files plan) (λ keys. StoresVerdict o plan keys status before now) (λ _. now ≡ before)
 
 -- this status can come with what was found
 abbrev pub Tells : Result Verdict EngineFail → ℕ → Type 0

@@ -2,7 +2,7 @@
 ghost use Rattle.std.specs.Prelude.{◌≡◌, ◌⊎◌, IfOk, IsTrue};
 ghost use Rattle.child_ports.specs.Causes.{AtMostOnce, Stayed};
 ghost use Rattle.run_answers.specs.Answers.{Answer};
-ghost use Rattle.run_answers.specs.Ended.{IsFinished, Shows, stored, sunk};
+ghost use Rattle.run_answers.specs.Ended.{IsFinished, Shows, StoresOnce, stored, sunk};
 ghost use Rattle.run_answers.specs.Faults.{IsEndFault, ends};
 ghost use Rattle.authenticate_run.specs.Answers.{ending_of, output_of, pairs_of, with_store};
 
@@ -67,6 +67,7 @@ pub fn finish_task<K: Keeper, O: Sink, E: Sink>(
     ensures keeps { IsTrue (K.tells keeper.old) → IsTrue (K.tells keeper.new) →
         (K.kept keeper.new ≡ K.kept keeper.old) ⊎ (K.kept keeper.new ≡ with_store (K.kept keeper.old) verdict.store) }
     ensures one_store { AtMostOnce (K.stores keeper.old) (K.stores keeper.new) }
+    ensures stores { StoresOnce (pairs_of verdict.store) (K.stores keeper.old) (K.stores keeper.new) ⊎ ((K.stores keeper.new ≡ K.stores keeper.old) × (result ≡ 6)) }
     ensures unchanged { IsTrue (K.tells keeper.old) → IsTrue (K.tells keeper.new) → result ≡ 6 → K.kept keeper.new ≡ K.kept keeper.old }
     ensures keeper_told { IsTrue (K.tells keeper.new) → IsTrue (K.tells keeper.old) }
     ensures keeper_tells { Stayed (K.faults keeper.old) (K.faults keeper.new) → IsTrue (K.tells keeper.old) → IsTrue (K.tells keeper.new) }

@@ -9,7 +9,7 @@ ghost use Rattle.run_answers.specs.Faults.{IsChildFault, IsEndFault, IsOtherFaul
 ghost use Rattle.authenticate_run.specs.Answers.{IsDue, IsAnswerBy, unread_of};
 ghost use Rattle.channel_deps.specs.Outside.{outside};
 ghost use Rattle.authenticate_run.specs.Outside.{task_for, OfKeys, HasSoundCache, HasSoundOrNone};
-ghost use Rattle.authenticate_run.specs.Run.{KeepsOrStores, AsksAsTold, AsksFor, IsAuthenticFor};
+ghost use Rattle.authenticate_run.specs.Run.{KeepsOrStores, KeepsOrPuts, PutsFor, StoresVerdict, StoresFor, AsksAsTold, AsksFor, IsAuthenticFor};
 
 use crate::ending::finish_task;
 use crate::historical::historical_keys;
@@ -55,7 +55,11 @@ fn run_task<G: GitPort, V: SigPort, K: Keeper, O: Sink, E: Sink>(
     ensures keeps { IsTrue (G.tells git.old) → IsTrue (V.tells gpgv.old) → IsTrue (K.tells keeper.old) → IsTrue (K.tells keeper.new) →
         let o = outside (G.table git.old) (V.table gpgv.old) (K.kept keeper.old) in
         HasSoundOrNone o plan.now historical → KeepsOrStores o plan.now historical (K.kept keeper.new) }
+    ensures puts { IsTrue (G.tells git.old) → IsTrue (V.tells gpgv.old) → IsTrue (K.tells keeper.old) → IsTrue (K.tells keeper.new) →
+        KeepsOrPuts (outside (G.table git.old) (V.table gpgv.old) (K.kept keeper.old)) plan.now historical (K.kept keeper.new) }
     ensures one_store { AtMostOnce (K.stores keeper.old) (K.stores keeper.new) }
+    ensures stores { IsTrue (G.tells git.old) → IsTrue (V.tells gpgv.old) → IsTrue (K.tells keeper.old) →
+        StoresVerdict (outside (G.table git.old) (V.table gpgv.old) (K.kept keeper.old)) plan.now historical result (K.stores keeper.old) (K.stores keeper.new) }
     ensures unstored { result ≢ 0 → result ≢ 5 → result ≢ 6 → K.stores keeper.new ≡ K.stores keeper.old }
     ensures asked { IsTrue (G.tells git.old) → IsTrue (V.tells gpgv.old) → IsTrue (K.tells keeper.old) →
         AsksAsTold (outside (G.table git.old) (V.table gpgv.old) (K.kept keeper.old)) plan.now historical result (V.asked gpgv.old) (V.asked gpgv.new) }
@@ -112,7 +116,11 @@ pub fn run_authenticate<G: GitPort, V: SigPort, K: Keeper, R: FileRoom, O: Sink,
     ensures keeps { IsTrue (G.tells git.old) → IsTrue (V.tells gpgv.old) → IsTrue (K.tells keeper.old) → IsTrue (K.tells keeper.new) → IsTrue (R.tells room.old) →
         let o = outside (G.table git.old) (V.table gpgv.old) (K.kept keeper.old) in
         OfKeys (R.files room.old) plan.now (λ keys. HasSoundOrNone o plan.now keys → KeepsOrStores o plan.now keys (K.kept keeper.new)) }
+    ensures puts { IsTrue (G.tells git.old) → IsTrue (V.tells gpgv.old) → IsTrue (K.tells keeper.old) → IsTrue (K.tells keeper.new) → IsTrue (R.tells room.old) →
+        PutsFor (outside (G.table git.old) (V.table gpgv.old) (K.kept keeper.old)) (R.files room.old) plan.now (K.kept keeper.new) }
     ensures one_store { AtMostOnce (K.stores keeper.old) (K.stores keeper.new) }
+    ensures stores { IsTrue (G.tells git.old) → IsTrue (V.tells gpgv.old) → IsTrue (K.tells keeper.old) → IsTrue (R.tells room.old) →
+        StoresFor (outside (G.table git.old) (V.table gpgv.old) (K.kept keeper.old)) (R.files room.old) plan.now result (K.stores keeper.old) (K.stores keeper.new) }
     ensures unstored { result ≢ 0 → result ≢ 5 → result ≢ 6 → K.stores keeper.new ≡ K.stores keeper.old }
     ensures asked { IsTrue (G.tells git.old) → IsTrue (V.tells gpgv.old) → IsTrue (K.tells keeper.old) → IsTrue (R.tells room.old) →
         AsksFor (outside (G.table git.old) (V.table gpgv.old) (K.kept keeper.old)) (R.files room.old) plan.now result (V.asked gpgv.old) (V.asked gpgv.new) }

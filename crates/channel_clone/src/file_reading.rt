@@ -49,6 +49,7 @@ fn read_blob_named<G: GitPort>(
 ) -> Result<Option<Id>, ReadFail>
     ensures told { G.tells git.new ≡ G.tells git.old }
     ensures table { G.table git.new ≡ G.table git.old }
+    ensures named { G.named git.new ≡ G.named git.old }
     ensures exact { IsTrue (G.tells git.old) → Reads result (blob_named (G.table git.old) dir.now name.now tree) }
     ensures cause { RoseWhen (is_read_fault result) (G.faults git.old) (G.faults git.new) }
 {
@@ -65,6 +66,7 @@ fn read_blob<G: GitPort>(
 ) -> Result<Option<Bytes>, EngineFail>
     ensures told { G.tells git.new ≡ G.tells git.old }
     ensures table { G.table git.new ≡ G.table git.old }
+    ensures named { G.named git.new ≡ G.named git.old }
     ensures exact { IsTrue (G.tells git.old) → Gives result (content_of (G.table git.old) dir.now blob) }
     ensures cause { RoseWhen (is_git_fault result) (G.faults git.old) (G.faults git.new) }
     ensures no_sig_fault { is_sig_fault result ≡ false }
@@ -97,6 +99,7 @@ pub fn read_file<G: GitPort>(
     ensures no_keep_fault { is_keep_fault result ≡ false }
     ensures told { G.tells git.new ≡ G.tells git.old }
     ensures table { G.table git.new ≡ G.table git.old }
+    ensures named { G.named git.new ≡ G.named git.old }
 {
     let tree = match read_commit_at(alloc, git, dir, commit) {
         Ok(found) => found.tree,

@@ -31,6 +31,7 @@ pub fn relate<G: GitPort>(
     ensures no_keep_fault { is_keep_fault result ≡ false }
     ensures told { G.tells git.new ≡ G.tells git.old }
     ensures table { G.table git.new ≡ G.table git.old }
+    ensures named { G.named git.new ≡ G.named git.old }
 {
     match read_history(alloc, git, dir, old, new) {
         Ok(mut graph) => Ok(graph.relation(old, new)),

@@ -1,8 +1,9 @@
 //! The commit that names stand for.
-ghost use Rattle.std.specs.Prelude.{◌≡◌, IsTrue, false};
+ghost use Rattle.std.specs.Prelude.{◌≡◌, length, IsTrue, false};
 ghost use Rattle.std.specs.List.{AllByRecursion};
 ghost use Rattle.child_ports.specs.Causes.{RoseWhen};
 ghost use Rattle.child_ports.specs.Git.{IsName};
+ghost use Rattle.child_ports.specs.Named.{NamedAtMost};
 ghost use Rattle.auth_engine.specs.Answers.{Gives, is_git_fault, is_sig_fault, is_keep_fault};
 ghost use Rattle.channel_clone.specs.Resolving.{resolved};
 
@@ -29,6 +30,7 @@ pub fn resolve<G: GitPort>(
     ensures no_keep_fault { is_keep_fault result ≡ false }
     ensures told { G.tells git.new ≡ G.tells git.old }
     ensures table { G.table git.new ≡ G.table git.old }
+    ensures named { NamedAtMost (length names.now) (G.named git.old) (G.named git.new) }
 {
     match name_first_commit(alloc, git, dir, names.as_slice()) {
         Ok(Ok(object)) => Ok(object.id),

@@ -1,5 +1,5 @@
 -- Answers that stand for what is so, and refusals that are told with a channel's name.
-use Rattle.std.proofs.Common.{◌≡◌, ◌≢◌, ◌⊎◌, ⊎_elim, Bool, false, Ok, Err, refl, sym, ap, subst}
+use Rattle.std.proofs.Common.{◌≡◌, ◌≢◌, ⊎_elim, false, Err, refl, sym, subst}
 use Rattle.std.specs.Prelude.{Result}
 use Rattle.auth_engine.specs.Answers as engine
 use Rattle.auth_engine.specs.declared.engine_fail.EngineFail.{EngineFail}
@@ -11,9 +11,7 @@ use Rattle.sexp_reader.specs.declared.fail.SexpFail.TheVariants as sexp
 use Rattle.channel_deps.specs.declared.set_fail.SetFail.{SetFail}
 use Rattle.channel_deps.specs.declared.set_fail.SetFail.TheVariants as fail
 use Rattle.channel_deps.specs.Answers.{is_git_fault, is_sig_fault, is_keep_fault, OnFinding, Gives, IsPlainFail}
-use Rattle.channel_deps.specs.Reading.{in_channel}
 use Rattle.channel_deps.specs.Steps.{IsOrMemory, IsToldOf, IsMetadataTold}
-use Rattle.auth_rules.specs.World.{onward}
 
 -- an answer that is a value has what the value has
 pub gives_finding : {A : Type 0} (result value : Result A SetFail) (P : Result A SetFail → Type 0) → Gives result value → P value → OnFinding result (P result)

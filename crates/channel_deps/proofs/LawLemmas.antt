@@ -1,11 +1,10 @@
 -- What follows from the definitions: accepted channels are authentic, and sound caches tell the outcome.
-use Rattle.std.proofs.Common.{◌≡◌, ℕ, List, Option, Some, None, Ok, Err, refl, ap, subst}
+use Rattle.std.proofs.Common.{◌≡◌, Option, Some, None, Ok, Err, refl, ap}
 use Rattle.std.specs.Prelude.{Result, IfOk, MatchResult}
 use Rattle.std.specs.FinMap as map
 use Rattle.auth_engine.proofs.OutcomeLemmas.{accepted_authentic, sound_or_none}
 use Rattle.auth_engine.specs.Outcome.{IsOutcome}
 use Rattle.auth_engine.specs.declared.engine_fail.EngineFail.{EngineFail}
-use Rattle.auth_engine.specs.declared.task.Task.{Task}
 use Rattle.auth_engine.specs.declared.task.Verdict.{Verdict}
 use Rattle.channel_file.specs.declared.channel.Channel.{Channel}
 use Rattle.channel_file.specs.declared.channel.Introduction.{Introduction}

@@ -1,4 +1,5 @@
 pub mod AnswerLemmas
+pub mod AskedLemmas
 pub mod KnownLemmas
 pub mod LawLemmas
 pub mod MemberLemmas

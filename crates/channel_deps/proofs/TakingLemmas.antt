@@ -1,5 +1,5 @@
 -- One channel of a set, step by step.
-use Rattle.std.proofs.Common.{◌≡◌, ◌⊎◌, inl, inr, ⊎_elim, ℕ, Bool, true, false, List, [], length, ◌≤◌, Option, Some, None, Ok, Err, refl, sym, subst, codes}
+use Rattle.std.proofs.Common.{◌≡◌, ℕ, Bool, true, false, List, length, ◌≤◌, Option, Some, None, Ok, Err, refl, sym, subst, codes}
 use Rattle.std.specs.Prelude.{All, Result, IfOk, MatchResult}
 use Rattle.std.specs.Result.{result_map_both}
 use Rattle.std.specs.FinMap as map
@@ -15,7 +15,6 @@ use Rattle.auth_engine.specs.declared.engine_fail.EngineFail.{EngineFail}
 use Rattle.channel_file.specs.Limits.{IsFit}
 use Rattle.channel_file.specs.declared.channel.Channel.{Channel}
 use Rattle.channel_file.specs.declared.channel.Introduction.{Introduction}
-use Rattle.channel_file.specs.declared.channel.Metadata.{Metadata}
 use Rattle.channel_file.specs.declared.fail.ChannelFail.{ChannelFail}
 use Rattle.channel_clone.specs.Files.{file_of}
 use Rattle.channel_clone.specs.Resolving.{resolved}
@@ -28,7 +27,7 @@ use Rattle.channel_deps.specs.declared.known.Checked.{Checked}
 use Rattle.channel_deps.specs.declared.known.Taken.{Taken}
 use Rattle.channel_deps.specs.declared.walking.Walk.{Walk}
 use Rattle.channel_deps.specs.Answers.{Gives, OnFinding, IsPlain, is_git_fault, is_sig_fault, is_keep_fault}
-use Rattle.channel_deps.specs.Moves.{if_allowed, move_of, IsMove, IsMoveIn, IsMoveOver, IsMoveFrom, IsMoveBetween}
+use Rattle.channel_deps.specs.Moves.{if_allowed, move_of, IsMove, IsMoveIn, IsMoveFrom}
 use Rattle.channel_deps.specs.Outcome.{taken_as, IsTakenAs, HasSoundRecord}
 use Rattle.channel_deps.specs.Outside.{Outside}
 use Rattle.channel_deps.specs.Places.{cache_key, target_names}

@@ -1,6 +1,6 @@
 -- The channels of a set, taken one after another.
-use Rattle.std.proofs.Common.{◌≡◌, ◌⊎◌, inl, inr, ⊎_elim, ℕ, suc, ◌+◌, ◌<◌, ◌≤◌, List, [], ◌∷◌, ◌++◌, map, length, length-append, take, drop, get_or, drop-cons, add-one, Ok, Err, refl, sym, ap, subst, ◌∙◌, append_assoc, arith}
-use Rattle.std.specs.Prelude.{Result, flat_map}
+use Rattle.std.proofs.Common.{◌≡◌, ◌⊎◌, inl, inr, ⊎_elim, ℕ, suc, ◌+◌, ◌<◌, ◌≤◌, List, [], ◌∷◌, ◌++◌, map, length, length-append, take, drop, drop-cons, add-one, Ok, Err, refl, sym, ap, subst, ◌∙◌, append_assoc, arith}
+use Rattle.std.specs.Prelude.{flat_map}
 use Rattle.std.proofs.lemmas.List.{append-nil, take-append-drop, take-append-le, take_more}
 use Rattle.child_ports.specs.Keeper.{Kept}
 use Rattle.child_ports.specs.declared.git.GitRow.{GitRow}
@@ -30,11 +30,11 @@ pub record HasWalked (o : Outside) (s : SetTask) (i : ℕ) (walk : Walk) : Type 
 
 -- ---- lists with one more behind them
 
-map_more : (xs : List Taken) (t : Taken) → map (λ (x : Taken). x.member) (xs ++ t ∷ []) ≡ map (λ (x : Taken). x.member) xs ++ t.member ∷ []
+pub map_more : (xs : List Taken) (t : Taken) → map (λ (x : Taken). x.member) (xs ++ t ∷ []) ≡ map (λ (x : Taken). x.member) xs ++ t.member ∷ []
 map_more [] t = refl
 map_more (x ∷ xs) t = ap (λ l. x.member ∷ l) (map_more xs t)
 
-flat_more : {A : Type 0} (f : Taken → List A) (xs : List Taken) (t : Taken) → flat_map f (xs ++ t ∷ []) ≡ flat_map f xs ++ f t
+pub flat_more : {A : Type 0} (f : Taken → List A) (xs : List Taken) (t : Taken) → flat_map f (xs ++ t ∷ []) ≡ flat_map f xs ++ f t
 flat_more f [] t = append-nil (f t)
 flat_more f (x ∷ xs) t = ap (λ l. f x ++ l) (flat_more f xs t) ∙ sym (append_assoc (f x) (flat_map f xs) (f t))
 
@@ -63,6 +63,20 @@ cut (x ∷ ts) t u (b ∷ before) after is =
 
 -- ---- one more channel
 
+-- the channels up to the next
+pub front_channels : (i : ℕ) (walk : Walk) (channel : Channel) → IsAt walk.list i channel → (t : Taken) (new : Walk) → HasTakenUp walk t new → take (i + 1) new.list ≡ take i walk.list ++ channel ∷ []
+front_channels i walk channel at t new up =
+    let more = only_append walk.list t.mentions in
+    let low = at.within in
+    let old : take (i + 1) new.list ≡ take (i + 1) walk.list = ap (λ (l : List Channel). take (i + 1) l) (up.list ∙ more.1) ∙ take-append-le (i + 1) walk.list more.0 (omega arith) in
+    old ∙ take_more walk.list i channel low ∙ ap (λ (c : Channel). take i walk.list ++ c ∷ []) (sym at.here)
+
+-- the channels from the next on
+pub next_channels : (i : ℕ) (walk : Walk) (channel : Channel) → IsAt walk.list i channel → drop i walk.list ≡ channel ∷ drop (i + 1) walk.list
+next_channels i walk channel at =
+    let low = at.within in
+    drop-cons walk.list i channel low ∙ ap (λ (c : Channel). c ∷ drop (suc i) walk.list) (sym at.here) ∙ ap (λ (n : ℕ). channel ∷ drop n walk.list) (sym (add-one i))
+
 module _ (o : Outside) (s : SetTask) (i : ℕ) (walk : Walk) (walked : HasWalked o s i walk) (channel : Channel) (at : IsAt walk.list i channel) (t : Taken) (is : IsTakenAs o s channel (Ok t)) (new : Walk) (up : HasTakenUp walk t new) where
   whole : listed s walked.taken ≡ walk.list
   whole = walked.front.list ∙ take-append-drop i walk.list
@@ -70,18 +84,11 @@ module _ (o : Outside) (s : SetTask) (i : ℕ) (walk : Walk) (walked : HasWalked
   grown : listed s (walked.taken ++ t ∷ []) ≡ new.list
   grown = listed_more s walked.taken t ∙ ap (λ (l : List Channel). with_mentions l t.mentions) whole ∙ sym up.list
 
-  front_channels : take (i + 1) new.list ≡ take i walk.list ++ channel ∷ []
-  front_channels =
-      let more = only_append walk.list t.mentions in
-      let low = at.within in
-      let old : take (i + 1) new.list ≡ take (i + 1) walk.list = ap (λ (l : List Channel). take (i + 1) l) (up.list ∙ more.1) ∙ take-append-le (i + 1) walk.list more.0 (omega arith) in
-      old ∙ take_more walk.list i channel low ∙ ap (λ (c : Channel). take i walk.list ++ c ∷ []) (sym at.here)
-
   pub walked_more : HasWalked o s (i + 1) new
   walked_more = record {
     taken = walked.taken ++ t ∷ [];
     front = record {
-      found = subst (λ (cs : List Channel). AreTakenAs o s cs (walked.taken ++ t ∷ [])) (sym front_channels) (taken_more o s (take i walk.list) walked.taken channel t walked.front.found is);
+      found = subst (λ (cs : List Channel). AreTakenAs o s cs (walked.taken ++ t ∷ [])) (sym (front_channels i walk channel at t new up)) (taken_more o s (take i walk.list) walked.taken channel t walked.front.found is);
       list = grown ∙ sym (take-append-drop (i + 1) new.list);
       few = subst (λ (l : List Channel). length l ≤ 256) (sym (take-append-drop (i + 1) new.list)) up.few;
       known = λ before after u split. ⊎_elim
@@ -137,14 +144,11 @@ all_walked o s i walk verdict walked all members store =
 -- the check comes to the next channel
 pub next_comes : (o : Outside) (s : SetTask) (i : ℕ) (walk : Walk) (channel : Channel) (walked : HasWalked o s i walk) → IsAt walk.list i channel → ComesTo o s channel
 next_comes o s i walk channel walked at =
-    let low = at.within in
-    let next : drop i walk.list ≡ channel ∷ drop (i + 1) walk.list =
-    drop-cons walk.list i channel low ∙ ap (λ (c : Channel). c ∷ drop (suc i) walk.list) (sym at.here) ∙ ap (λ (n : ℕ). channel ∷ drop n walk.list) (sym (add-one i)) in
     record {
       channels = take i walk.list;
       taken = walked.taken;
       left = drop (i + 1) walk.list;
-      front = subst (λ (l : List Channel). HasTaken o s (take i walk.list) walked.taken l) next walked.front;
+      front = subst (λ (l : List Channel). HasTaken o s (take i walk.list) walked.taken l) (next_channels i walk channel at) walked.front;
     }
 
 -- its mentions are too many

@@ -1,9 +1,11 @@
 pub mod Answers
+pub mod Asked
 pub mod Limits
 pub mod Members
 pub mod Moves
 pub mod Outside
 pub mod Outcome
+pub mod Over
 pub mod Places
 pub mod Reading
 pub mod Standings

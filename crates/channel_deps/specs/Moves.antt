@@ -8,7 +8,7 @@ use Rattle.channel_file.specs.declared.channel.Channel.{Channel}
 use Rattle.commit_graph.specs.declared.relation.Relation.{Relation}
 use Rattle.commit_graph.specs.declared.relation.Relation.TheVariants as relation
 use Rattle.auth_rules.specs.declared.cause.What.TheVariants.{Missing}
-use Rattle.auth_rules.specs.World.{World, Id, world_of, commit_at}
+use Rattle.auth_rules.specs.World.{Id, world_of, commit_at}
 use Rattle.auth_engine.specs.declared.engine_fail.EngineFail.{EngineFail}
 use Rattle.auth_engine.specs.Answers.{IsStop}
 use Rattle.channel_clone.specs.Relations.{IsRelationAnswer}

@@ -1,5 +1,5 @@
 -- What a set of channels comes to: the first refusal, or the verdict.
-use Rattle.std.specs.Prelude.{◌≡◌, ℕ, ◌<◌, ◌≤◌, List, [], ◌∷◌, ◌++◌, map, flat_map, length, Bool, is_some, option_map, Option, Some, None, Result, Ok, Err, MatchResult, IfOk}
+use Rattle.std.specs.Prelude.{◌≡◌, ℕ, ◌<◌, ◌≤◌, List, [], ◌∷◌, ◌++◌, map, flat_map, length, is_some, Option, Some, None, Result, Ok, Err, MatchResult, IfOk}
 use Rattle.child_ports.specs.declared.keeper.Pair.{Pair}
 use Rattle.channel_file.specs.declared.channel.Channel.{Channel}
 use Rattle.channel_deps.specs.declared.set.SetTask.{SetTask}

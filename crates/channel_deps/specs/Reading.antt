@@ -6,7 +6,7 @@ use Rattle.channel_file.specs.declared.channel.Channel.{Channel}
 use Rattle.channel_file.specs.declared.channel.Metadata.{Metadata}
 use Rattle.channel_file.specs.declared.fail.ChannelFail.{ChannelFail}
 use Rattle.channel_file.specs.Metadata.{metadata_of}
-use Rattle.auth_rules.specs.World.{Id, onward}
+use Rattle.auth_rules.specs.World.{onward}
 use Rattle.auth_engine.specs.declared.engine_fail.EngineFail.{EngineFail}
 use Rattle.channel_clone.specs.Files.{file_of}
 use Rattle.channel_clone.specs.Resolving.{resolved}

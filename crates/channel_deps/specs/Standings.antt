@@ -1,7 +1,6 @@
 -- Whether a channel's target is authentic.
-use Rattle.std.specs.Prelude.{◌≡◌, ℕ, List, Bool, if◌then◌else◌, Option, Some, None, Result, Ok, Err}
+use Rattle.std.specs.Prelude.{◌≡◌, Bool, if◌then◌else◌, Option, Some, None, Result, Ok, Err}
 use Rattle.std.specs.FinMap as map
-use Rattle.child_ports.specs.declared.keeper.Pair.{Pair}
 use Rattle.channel_file.specs.declared.channel.Channel.{Channel}
 use Rattle.channel_file.specs.declared.channel.Introduction.{Introduction}
 use Rattle.auth_engine.specs.declared.task.Task.{Task}

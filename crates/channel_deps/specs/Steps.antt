@@ -11,7 +11,7 @@ use Rattle.channel_file.specs.declared.channel.Channel.{Channel}
 use Rattle.channel_file.specs.declared.fail.ChannelFail.{ChannelFail}
 use Rattle.channel_file.specs.declared.fail.ChannelFail.TheVariants as file
 use Rattle.channel_deps.specs.declared.set.Move.{Move}
-use Rattle.channel_deps.specs.declared.set.Move.TheVariants.{New, Same, Forward, Back, Unrelated, Lost}
+use Rattle.channel_deps.specs.declared.set.Move.TheVariants.{New, Same, Forward, Back, Unrelated}
 use Rattle.channel_deps.specs.declared.known.Taken.{Taken}
 use Rattle.channel_deps.specs.declared.walking.Walk.{Walk}
 use Rattle.channel_deps.specs.declared.set_fail.SetFail.{SetFail}

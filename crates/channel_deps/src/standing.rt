@@ -1,9 +1,11 @@
 //! The check of one channel.
-ghost use Rattle.std.specs.Prelude.{◌≡◌, false, Some, IsTrue};
+ghost use Rattle.std.specs.Prelude.{◌≡◌, false, Some, IfOk, IsTrue};
 ghost use Rattle.child_ports.specs.Causes.{RoseWhen};
 ghost use Rattle.channel_file.specs.Limits.{IsFit, IsFitMetadata};
 ghost use Rattle.channel_deps.specs.Answers.{OnFinding, IsPlain, is_git_fault, is_sig_fault, is_keep_fault};
+ghost use Rattle.channel_deps.specs.Asked.{AsksChecking};
 ghost use Rattle.channel_deps.specs.Outside.{outside};
+ghost use Rattle.channel_deps.specs.Over.{IsCheckedOver};
 ghost use Rattle.channel_deps.specs.Standings.{standing_of, introduction_for, IsChecked, HasSoundOrNone};
 
 use crate::known::{Checked, Known};
@@ -42,6 +44,10 @@ fn check_from<G: GitPort, V: SigPort, K: Keeper>(
     ensures checked { IsTrue (G.tells git.old) → IsTrue (V.tells sig.old) → IsTrue (K.tells keeper.old) →
         let o = outside (G.table git.old) (V.table sig.old) (K.kept keeper.old) in
         HasSoundOrNone o set.now channel.now known.now (Some introduction) → OnFinding result (IsChecked o set.now channel.now known.now (Some introduction) result) }
+    ensures over { IsTrue (G.tells git.old) → IsTrue (V.tells sig.old) → IsTrue (K.tells keeper.old) →
+        IfOk result (IsCheckedOver (outside (G.table git.old) (V.table sig.old) (K.kept keeper.old)) set.now channel.now known.now (Some introduction)) }
+    ensures asked { IsTrue (G.tells git.old) → IsTrue (V.tells sig.old) → IsTrue (K.tells keeper.old) →
+        AsksChecking (outside (G.table git.old) (V.table sig.old) (K.kept keeper.old)) set.now channel.now known.now (Some introduction) result (V.asked sig.old) (V.asked sig.new) }
     ensures git_fault { RoseWhen (is_git_fault result) (G.faults git.old) (G.faults git.new) }
     ensures sig_fault { RoseWhen (is_sig_fault result) (V.faults sig.old) (V.faults sig.new) }
     ensures keep_fault { RoseWhen (is_keep_fault result) (K.faults keeper.old) (K.faults keeper.new) }
@@ -101,6 +107,10 @@ pub fn check_channel<G: GitPort, V: SigPort, K: Keeper>(
         let o = outside (G.table git.old) (V.table sig.old) (K.kept keeper.old) in
         HasSoundOrNone o set.now channel.now known.now (introduction_for set.now channel.now) →
         OnFinding result (IsChecked o set.now channel.now known.now (introduction_for set.now channel.now) result) }
+    ensures over { IsTrue (G.tells git.old) → IsTrue (V.tells sig.old) → IsTrue (K.tells keeper.old) →
+        IfOk result (IsCheckedOver (outside (G.table git.old) (V.table sig.old) (K.kept keeper.old)) set.now channel.now known.now (introduction_for set.now channel.now)) }
+    ensures asked { IsTrue (G.tells git.old) → IsTrue (V.tells sig.old) → IsTrue (K.tells keeper.old) →
+        AsksChecking (outside (G.table git.old) (V.table sig.old) (K.kept keeper.old)) set.now channel.now known.now (introduction_for set.now channel.now) result (V.asked sig.old) (V.asked sig.new) }
     ensures git_fault { RoseWhen (is_git_fault result) (G.faults git.old) (G.faults git.new) }
     ensures sig_fault { RoseWhen (is_sig_fault result) (V.faults sig.old) (V.faults sig.new) }
     ensures keep_fault { RoseWhen (is_keep_fault result) (K.faults keeper.old) (K.faults keeper.new) }

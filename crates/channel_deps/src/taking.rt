@@ -3,9 +3,11 @@ ghost use Rattle.std.specs.Prelude.{◌≡◌, false, All, IfOk, IsTrue};
 ghost use Rattle.child_ports.specs.Causes.{RoseWhen};
 ghost use Rattle.channel_file.specs.Limits.{IsFit};
 ghost use Rattle.channel_deps.specs.Answers.{OnFinding, IsPlain, is_git_fault, is_sig_fault, is_keep_fault};
+ghost use Rattle.channel_deps.specs.Asked.{AsksTaking};
 ghost use Rattle.channel_deps.specs.Moves.{record_of};
 ghost use Rattle.channel_deps.specs.Outcome.{cache_pairs, deployed_pair, stored_pairs, taken_as, IsTakenAs, HasSoundRecord};
 ghost use Rattle.channel_deps.specs.Outside.{outside};
+ghost use Rattle.channel_deps.specs.Over.{IsTakenOver};
 
 use crate::known::{Checked, Known, Taken};
 use crate::moving::find_move;
@@ -116,6 +118,10 @@ pub fn take_channel<G: GitPort, V: SigPort, K: Keeper>(
     ensures taken { IsTrue (G.tells git.old) → IsTrue (V.tells sig.old) → IsTrue (K.tells keeper.old) →
         let o = outside (G.table git.old) (V.table sig.old) (K.kept keeper.old) in
         HasSoundRecord o set.now channel.now → OnFinding result (IsTakenAs o set.now channel.now result) }
+    ensures over { IsTrue (G.tells git.old) → IsTrue (V.tells sig.old) → IsTrue (K.tells keeper.old) →
+        IfOk result (IsTakenOver (outside (G.table git.old) (V.table sig.old) (K.kept keeper.old)) set.now channel.now) }
+    ensures asked { IsTrue (G.tells git.old) → IsTrue (V.tells sig.old) → IsTrue (K.tells keeper.old) →
+        AsksTaking (outside (G.table git.old) (V.table sig.old) (K.kept keeper.old)) set.now channel.now result (V.asked sig.old) (V.asked sig.new) }
     ensures fit { IfOk result (λ taken. All IsFit taken.mentions) }
     ensures git_fault { RoseWhen (is_git_fault result) (G.faults git.old) (G.faults git.new) }
     ensures sig_fault { RoseWhen (is_sig_fault result) (V.faults sig.old) (V.faults sig.new) }

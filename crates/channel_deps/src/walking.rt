@@ -3,9 +3,11 @@ ghost use Rattle.std.specs.Prelude.{◌≡◌, ◌≤◌, ◌<◌, ◌∷◌, []
 ghost use Rattle.child_ports.specs.Causes.{RoseWhen};
 ghost use Rattle.channel_file.specs.Limits.{IsFit};
 ghost use Rattle.channel_deps.specs.Answers.{OnFinding, IsPlain, is_git_fault, is_sig_fault, is_keep_fault};
+ghost use Rattle.channel_deps.specs.Asked.{AsksSet, GoesNext};
 ghost use Rattle.channel_deps.specs.Limits.{FitsSet};
 ghost use Rattle.channel_deps.specs.Outcome.{HasSoundRecord, AreSoundOrNone, IsSetOutcome};
 ghost use Rattle.channel_deps.specs.Outside.{outside};
+ghost use Rattle.channel_deps.specs.Over.{IsSetVerdictOver};
 ghost use Rattle.channel_deps.specs.Steps.{Adds, TakesUp, IsAt, TakesNext};
 
 use crate::known::Taken;
@@ -153,6 +155,8 @@ fn take_next<G: GitPort, V: SigPort, K: Keeper>(
         let o = outside (G.table git.old) (V.table sig.old) (K.kept keeper.old) in
         ((channel : Channel) → IsAt walk.list i channel → HasSoundRecord o set.now channel) →
         OnFinding result (TakesNext o set.now i walk result) }
+    ensures goes { IsTrue (G.tells git.old) → IsTrue (V.tells sig.old) → IsTrue (K.tells keeper.old) →
+        GoesNext (outside (G.table git.old) (V.table sig.old) (K.kept keeper.old)) set.now i walk result (V.asked sig.old) (V.asked sig.new) }
     ensures few { IfOk result (λ new. length new.list ≤ 256) }
     ensures fit { IfOk result (λ new. All IsFit new.list) }
     ensures git_fault { RoseWhen (is_git_fault result) (G.faults git.old) (G.faults git.new) }
@@ -187,6 +191,15 @@ pub fn authenticate_set<G: GitPort, V: SigPort, K: Keeper>(
     ensures outcome { IsTrue (G.tells git.old) → IsTrue (V.tells sig.old) → IsTrue (K.tells keeper.old) →
         let o = outside (G.table git.old) (V.table sig.old) (K.kept keeper.old) in
         AreSoundOrNone o set.now → OnFinding result (IsSetOutcome o set.now result) }
+
+    // Whatever is kept, sound or not, an accepted set has a verdict on each of its channels, and only what those say is to be kept.
+    ensures verdict { IsTrue (G.tells git.old) → IsTrue (V.tells sig.old) → IsTrue (K.tells keeper.old) →
+        IfOk result (IsSetVerdictOver (outside (G.table git.old) (V.table sig.old) (K.kept keeper.old)) set.now) }
+
+    // The questions to gpgv, whatever is kept: for each channel that is checked one for its introduction and one for each commit
+    // that was judged, up to the channel that is refused.
+    ensures asked { IsTrue (G.tells git.old) → IsTrue (V.tells sig.old) → IsTrue (K.tells keeper.old) →
+        AsksSet (outside (G.table git.old) (V.table sig.old) (K.kept keeper.old)) set.now result (V.asked sig.old) (V.asked sig.new) }
 
     // A fault of a port comes exactly where a call on it failed.
     ensures git_fault { RoseWhen (is_git_fault result) (G.faults git.old) (G.faults git.new) }

@@ -1,3 +1,4 @@
 pub mod ListLemmas
+pub mod PutLemmas
 pub mod SetRunLemmas
 pub mod SoundLemmas

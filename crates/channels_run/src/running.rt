@@ -8,9 +8,9 @@ ghost use Rattle.channel_deps.specs.Limits.{FitsSet};
 ghost use Rattle.channel_deps.specs.Outcome.{AreSoundOrNone, HasSoundCaches};
 ghost use Rattle.channel_deps.specs.Outside.{outside};
 ghost use Rattle.run_answers.specs.Answers.{Answer};
-ghost use Rattle.run_answers.specs.Ended.{IsFinished, IsItOrStopped, IsItOrUnread, Shows, stored, sunk};
+ghost use Rattle.run_answers.specs.Ended.{IsFinished, IsItOrStopped, IsItOrUnread, Shows, StoresOnce, stored, sunk};
 ghost use Rattle.run_answers.specs.Faults.{IsChildFault, IsEndFault, IsOtherFault, counts, ends};
-ghost use Rattle.channels_run.specs.Answers.{set_for, set_ending, IsSetDue, IsListAnswer, list_unread, HasSetVerdict, IsAcceptedSet, OfSet, KeepsOrStoresAll};
+ghost use Rattle.channels_run.specs.Answers.{set_for, set_ending, IsSetDue, IsListAnswer, list_unread, HasSetVerdict, IsAcceptedSet, OfSet, KeepsOrStoresAll, KeepsOrPutsAll, SetPutsFor, StoresSetVerdict, SetStoresFor, AsksSetAsTold, SetAsksFor};
 
 use crate::listing::listed_channels;
 use crate::showing::tell_set_refusal;
@@ -72,6 +72,7 @@ fn finish_set<K: Keeper, O: Sink, E: Sink>(
     ensures keeps { IsTrue (K.tells keeper.old) → IsTrue (K.tells keeper.new) →
         (K.kept keeper.new ≡ K.kept keeper.old) ⊎ (K.kept keeper.new ≡ with_pairs (K.kept keeper.old) verdict.store) }
     ensures one_store { AtMostOnce (K.stores keeper.old) (K.stores keeper.new) }
+    ensures stores { StoresOnce verdict.store (K.stores keeper.old) (K.stores keeper.new) ⊎ ((K.stores keeper.new ≡ K.stores keeper.old) × (result ≡ 6)) }
     ensures unchanged { IsTrue (K.tells keeper.old) → IsTrue (K.tells keeper.new) → result ≡ 6 → K.kept keeper.new ≡ K.kept keeper.old }
     ensures keeper_told { IsTrue (K.tells keeper.new) → IsTrue (K.tells keeper.old) }
     ensures keeper_tells { Stayed (K.faults keeper.old) (K.faults keeper.new) → IsTrue (K.tells keeper.old) → IsTrue (K.tells keeper.new) }
@@ -119,7 +120,13 @@ fn run_set<G: GitPort, V: SigPort, K: Keeper, O: Sink, E: Sink>(
     ensures keeps { IsTrue (G.tells git.old) → IsTrue (V.tells gpgv.old) → IsTrue (K.tells keeper.old) → IsTrue (K.tells keeper.new) →
         let o = outside (G.table git.old) (V.table gpgv.old) (K.kept keeper.old) in
         AreSoundOrNone o (set_for plan.now channels) → KeepsOrStoresAll o (K.kept keeper.new) (set_for plan.now channels) }
+    ensures puts { IsTrue (G.tells git.old) → IsTrue (V.tells gpgv.old) → IsTrue (K.tells keeper.old) → IsTrue (K.tells keeper.new) →
+        KeepsOrPutsAll (outside (G.table git.old) (V.table gpgv.old) (K.kept keeper.old)) (set_for plan.now channels) (K.kept keeper.new) }
     ensures one_store { AtMostOnce (K.stores keeper.old) (K.stores keeper.new) }
+    ensures stores { IsTrue (G.tells git.old) → IsTrue (V.tells gpgv.old) → IsTrue (K.tells keeper.old) →
+        StoresSetVerdict (outside (G.table git.old) (V.table gpgv.old) (K.kept keeper.old)) (set_for plan.now channels) result (K.stores keeper.old) (K.stores keeper.new) }
+    ensures asked { IsTrue (G.tells git.old) → IsTrue (V.tells gpgv.old) → IsTrue (K.tells keeper.old) →
+        AsksSetAsTold (outside (G.table git.old) (V.table gpgv.old) (K.kept keeper.old)) (set_for plan.now channels) result (V.asked gpgv.old) (V.asked gpgv.new) }
     ensures unstored { result ≢ 0 → result ≢ 5 → result ≢ 6 → K.stores keeper.new ≡ K.stores keeper.old }
     ensures unasked { plan.now.check ≡ false → V.asked gpgv.new ≡ V.asked gpgv.old }
     ensures git_told { G.tells git.new ≡ G.tells git.old }
@@ -179,7 +186,13 @@ pub fn run_channels<G: GitPort, V: SigPort, K: Keeper, R: FileRoom, O: Sink, E: 
         let o = outside (G.table git.old) (V.table gpgv.old) (K.kept keeper.old) in
         let after = outside (G.table git.old) (V.table gpgv.old) (K.kept keeper.new) in
         OfSet (R.files room.old) plan.now (λ set. HasSoundCaches o set → HasSoundCaches after set) }
+    ensures puts { IsTrue (G.tells git.old) → IsTrue (V.tells gpgv.old) → IsTrue (K.tells keeper.old) → IsTrue (K.tells keeper.new) → IsTrue (R.tells room.old) →
+        SetPutsFor (outside (G.table git.old) (V.table gpgv.old) (K.kept keeper.old)) (R.files room.old) plan.now (K.kept keeper.new) }
     ensures one_store { AtMostOnce (K.stores keeper.old) (K.stores keeper.new) }
+    ensures stores { IsTrue (G.tells git.old) → IsTrue (V.tells gpgv.old) → IsTrue (K.tells keeper.old) → IsTrue (R.tells room.old) →
+        SetStoresFor (outside (G.table git.old) (V.table gpgv.old) (K.kept keeper.old)) (R.files room.old) plan.now result (K.stores keeper.old) (K.stores keeper.new) }
+    ensures asked { IsTrue (G.tells git.old) → IsTrue (V.tells gpgv.old) → IsTrue (K.tells keeper.old) → IsTrue (R.tells room.old) →
+        SetAsksFor (outside (G.table git.old) (V.table gpgv.old) (K.kept keeper.old)) (R.files room.old) plan.now result (V.asked gpgv.old) (V.asked gpgv.new) }
     ensures unstored { result ≢ 0 → result ≢ 5 → result ≢ 6 → K.stores keeper.new ≡ K.stores keeper.old }
     ensures unasked { plan.now.check ≡ false → V.asked gpgv.new ≡ V.asked gpgv.old }
     ensures git_told { G.tells git.new ≡ G.tells git.old }

@@ -2,6 +2,7 @@ pub mod FingerprintLemmas
 pub mod FramedLemmas
 pub mod HeaderLemmas
 pub mod KeySetLemmas
+pub mod NamedLemmas
 pub mod PairLemmas
 pub mod PieceLemmas
 pub mod PlaceLemmas

@@ -15,6 +15,7 @@ pub mod MemSig
 pub mod MemSigInside
 pub mod MemSink
 pub mod MemSinkInside
+pub mod Named
 pub mod Places
 pub mod Script
 pub mod Sig

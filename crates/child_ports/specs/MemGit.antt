@@ -3,11 +3,13 @@ use Rattle.std.specs.Prelude.{ℕ, min, max, List, [], ◌∷◌, Option, Some, 
 use Rattle.child_ports.specs.declared.git.GitRow.{GitRow}
 use Rattle.child_ports.specs.declared.memory.script.Script.{Script}
 
--- its rows, its calls, the sizes of the pieces that are to come, and what of the last answer is unread
+-- its rows, its calls, the sizes of the pieces that are to come, how many names were asked, and what of the last answer is
+-- unread
 pub record GitState : Type 0 where
   pub rows : List GitRow
   pub script : Script
   pub pieces : List ℕ
+  pub named : ℕ
   pub pending : List ℕ
 
 -- a row's answer, and no bytes without a row

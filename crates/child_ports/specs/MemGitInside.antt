@@ -20,6 +20,7 @@ git_state a = record {
   rows = a.rows;
   script = a.script;
   pieces = drop a.piece a.pieces;
+  named = a.named;
   pending = drop a.at (current_bytes a.rows a.absent a.current);
 }
 

@@ -3,6 +3,7 @@ ghost use Rattle.std.specs.Prelude.{◌≡◌, ◌≤◌, ◌<◌, List, ℕ, Bo
 ghost use Rattle.child_ports.specs.Causes.{FailsByCount};
 ghost use Rattle.child_ports.specs.Git.{IsName, answer, Hands};
 ghost use Rattle.child_ports.specs.Framed.{IsFramed};
+ghost use Rattle.child_ports.specs.Named.{after_name};
 
 use crate::{Bytes, Failed, Items, Text};
 
@@ -30,6 +31,12 @@ pub trait GitPort {
     /// The answers. No call changes them.
     ghost table: { Self → List GitRow };
 
+    /// How many names were asked that are no ids in full, whatever the answers. It stays at the last u64.
+    ///
+    /// An object has to have the id in full that was asked. Any other name can come to stand for something else between
+    /// two questions, so none is asked twice.
+    ghost named: { Self → ℕ };
+
     /// What of the last answer is unread.
     ghost pending: { Self → List ℕ };
 
@@ -38,6 +45,7 @@ pub trait GitPort {
         requires { IsName name.now }
         ensures told { tells self.new ≡ tells self.old }
         ensures table { table self.new ≡ table self.old }
+        ensures named { named self.new ≡ after_name name.now (named self.old) }
         ensures answer { OnOk result (IsTrue (tells self.old) → pending self.new ≡ answer (table self.old) dir.now name.now) }
         ensures framed { IsTrue (tells self.old) → IsFramed name.now (answer (table self.old) dir.now name.now) }
         ensures cause { FailsByCount (faults self.old) (faults self.new) result };
@@ -47,6 +55,7 @@ pub trait GitPort {
     fn read(&mut self, buf: &mut [u8]) -> Result<usize, Failed>
         ensures told { tells self.new ≡ tells self.old }
         ensures table { table self.new ≡ table self.old }
+        ensures named { named self.new ≡ named self.old }
         ensures room { IfOk result (λ n. n ≤ length buf.old) }
         ensures bytes { IfOk result (λ n. IsTrue (tells self.old) → Hands (pending self.old) (pending self.new) n buf.new) }
         ensures cause { FailsByCount (faults self.old) (faults self.new) result };

@@ -1,5 +1,5 @@
 -- What the levels of a graph's commits say. No public clause cites it.
-use Rattle.std.specs.Prelude.{◌≡◌, ◌≢◌, ℕ, suc, ◌+◌, ◌<◌, ◌≤◌, ◌⊎◌, Bool, true, cond, List, [], ◌∷◌, length, map, Option, Some, None, is_some, slice_index_or, IsTrue, All}
+use Rattle.std.specs.Prelude.{◌≡◌, ◌≢◌, ℕ, suc, ◌+◌, ◌-◌, ◌^◌, min, ◌<◌, ◌≤◌, ◌⊎◌, Bool, true, cond, List, [], ◌∷◌, length, map, Option, Some, None, is_some, slice_index_or, IsTrue, All}
 use Rattle.std.specs.Option.{option_map}
 use Rattle.std.specs.Ordering.{is_gt}
 use Rattle.std.specs.List.{IsDistinct}
@@ -25,6 +25,11 @@ level_of node = node.level
 -- the level at an id
 abbrev pub level_at : List (Name × Node) → Name → Option Level
 level_at nodes id = option_map level_of (node_at nodes id)
+
+-- the place after that at which a commit was entered as a parent, and the first one for a commit that isn't held
+abbrev pub place_after : Option Node → ℕ
+place_after None = 0
+place_after (Some node) = min (node.place_as_parent + 1) (2 ^ 64 - 1)
 
 -- one for a commit whose generation isn't found or given up
 abbrev pub undecided : Level → ℕ

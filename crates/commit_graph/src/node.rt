@@ -3,7 +3,7 @@ ghost use Rattle.std.specs.Prelude.{◌≡◌, fold, Some, IfOk, IfSome};
 ghost use Rattle.std.specs.BTreeMap.{keys, IsOrdered};
 ghost use Rattle.commit_graph.specs.History.{name_cmp, IsParent};
 ghost use Rattle.commit_graph.specs.Node.{held_of};
-ghost use Rattle.commit_graph.specs.Level.{level_at, SetsLevel, IsStep, AreSmall, lower, forgotten, IsFirstEndless};
+ghost use Rattle.commit_graph.specs.Level.{level_at, node_at, place_after, SetsLevel, IsStep, AreSmall, lower, forgotten, IsFirstEndless};
 
 use crate::level::{Level, Step};
 use object_frames::{Id, IdList};
@@ -51,8 +51,10 @@ pub fn enter_at(nodes: &mut Nodes, id: Id, place: usize)
     }
 }
 
-/// The place after that at which the commit was entered. It saves time alone, so no clause speaks of it.
-pub fn place_after(nodes: &Nodes, id: Id) -> usize {
+/// The place after that at which the commit was entered. It saves time alone: no answer rests on it.
+pub fn place_after(nodes: &Nodes, id: Id) -> usize
+    ensures { result ≡ place_after (node_at nodes.now.entries id) }
+{
     match nodes.get(&id) {
         Some(node) => node.place_as_parent.saturating_add(1),
         None => 0,

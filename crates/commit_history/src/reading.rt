@@ -26,6 +26,7 @@ fn read_members<G: GitPort>(
 ) -> Result<Walk, HistoryFail>
     ensures told { G.tells git.new ≡ G.tells git.old }
     ensures table { G.table git.new ≡ G.table git.old }
+    ensures named { G.named git.new ≡ G.named git.old }
     ensures whole { IfOk result (λ walk. IsWhole walk.graph.held) }
     ensures few { IfOk result (λ walk. map.len walk.graph.held ≤ 1000000) }
     ensures both { IfOk result (λ walk. Holds walk.graph.held target × Holds walk.graph.held intro) }
@@ -85,6 +86,7 @@ pub fn read_history<G: GitPort>(
     ensures cause { RoseWhen (is_git_fault result) (G.faults git.old) (G.faults git.new) }
     ensures told { G.tells git.new ≡ G.tells git.old }
     ensures table { G.table git.new ≡ G.table git.old }
+    ensures named { G.named git.new ≡ G.named git.old }
 {
     let Walk { graph, unread, .. } = read_members(alloc, git, dir, target, intro)?;
     if let Some(unread) = unread {

@@ -92,6 +92,7 @@ pub fn read_parents<G: GitPort>(
 ) -> Result<IdList, HistoryFail>
     ensures told { G.tells git.new ≡ G.tells git.old }
     ensures table { G.table git.new ≡ G.table git.old }
+    ensures named { G.named git.new ≡ G.named git.old }
     ensures parents { IsTrue (G.tells git.old) → IfOk result (λ parents. parents ≡ parents_of (git_world (G.table git.old) dir.now) id) }
     ensures noted { IsTrue (G.tells git.old) → OnOk result (least.new ≡ noted least.old id (commit_at (G.table git.old) dir.now id)) }
     ensures err { IfErr result IsReadFail }

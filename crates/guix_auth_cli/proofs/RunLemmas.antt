@@ -1,5 +1,5 @@
 -- A run of words.
-use Rattle.std.proofs.Common.{◌≡◌, ◌≢◌, ◌⊎◌, inl, inr, ℕ, List, [], Option, Some, None, Result, Ok, Err, cond, refl, sym, ap, ◌∙◌, subst, arith}
+use Rattle.std.proofs.Common.{◌≡◌, ◌≢◌, ◌⊎◌, inl, inr, ℕ, List, Option, Some, None, Result, Ok, Err, cond, refl, sym, ap, ◌∙◌, subst, arith}
 use Rattle.std.specs.Prelude.{IfOk, IfSome}
 use Rattle.std.specs.FinMap as map
 use Rattle.std.specs.FinMap.{get-insert}
@@ -10,8 +10,6 @@ use Rattle.child_ports.specs.declared.keeper.Pair.{Pair}
 use Rattle.child_ports.specs.Causes.{Rose}
 use Rattle.child_ports.specs.Keeper.{Kept}
 use Rattle.child_ports.specs.KeySet.{Keys}
-use Rattle.auth_engine.specs.declared.task.Verdict.{Verdict}
-use Rattle.auth_engine.specs.Outcome.{IsOutcome}
 use Rattle.auth_engine.specs.SoundCache.{IsSoundCache}
 use Rattle.auth_engine.proofs.OutcomeLemmas.{sound_or_none}
 use Rattle.auth_engine.proofs.StoredLemmas.{stored_sound}
@@ -26,12 +24,14 @@ use Rattle.run_answers.specs.Answers.{Answer, refused}
 use Rattle.authenticate_run.specs.Answers.{with_store}
 use Rattle.run_answers.specs.Faults.{Counts, Ends, IsOtherFault}
 use Rattle.channel_deps.specs.Outside.{Outside, outside}
-use Rattle.authenticate_run.specs.Outside.{task_for, cache_in, historical_of, HasSoundCache, HasSoundOrNone}
+use Rattle.authenticate_run.specs.Outside.{task_for, cache_in, HasSoundCache, HasSoundOrNone}
 use Rattle.run_answers.specs.Ended.{Sunk, Stored, IsOutput, Shows, stored, IsItOrUnread}
 use Rattle.authenticate_run.specs.Run.{KeepsOrStores}
-use Rattle.guix_auth_cli.specs.Answers.{IsAnswerTo, IsAnswerOf, unread_by, MayWarn}
+use Rattle.guix_auth_cli.specs.Answers.{IsAnswerTo, unread_by, MayWarn, PutsBy, StoresBy}
 use Rattle.run_answers.specs.Shown.{IsPut, IsStatus}
 use Rattle.run_answers.proofs.FinishLemmas.{stop_shown}
+use Rattle.authenticate_run.proofs.StoreLemmas.{no_puts, no_stores}
+use Rattle.channels_run.proofs.PutLemmas.{no_set_puts, no_set_stores}
 
 -- what was read is what the words state
 pub read_is : {E : Type 0} (result : Result (Option Command) E) (read stated : Option Command) → IfOk result (λ command. command ≡ stated) → result ≡ Ok read → stated ≡ read
@@ -81,6 +81,20 @@ pub wants_memory : (o : Outside) (files : Kept) (words : List (List ℕ)) (befor
     → IsPut err.taken err'.taken (refusal_line Memory) err.failed err'.failed → Ran o files words before now room room' status store' out out err err' (command_of words)
 wants_memory o files words before now room room' status store' out err err' own keeps put =
     (refused o.kept Memory, inl (inr (Memory, tt, refl)), stop_shown o.kept Memory status (stored o.kept before.keeper) store' out err err' own (λ _. keeps) put)
+
+-- ---- nothing was checked
+
+pub puts_none : (o : Outside) (files : Kept) (command : Option Command) (after : Kept) → after ≡ o.kept → PutsBy o files command after
+puts_none o files None after same = same
+puts_none o files (Some Help) after same = same
+puts_none o files (Some (Authenticate plan)) after same = no_puts o files plan after same
+puts_none o files (Some (Channels plan)) after same = no_set_puts o files plan after same
+
+pub stores_none : (o : Outside) (files : Kept) (command : Option Command) (status before now : ℕ) → now ≡ before → status ≢ 0 → StoresBy o files command status before now
+stores_none o files None status before now same own = same
+stores_none o files (Some Help) status before now same own = same
+stores_none o files (Some (Authenticate plan)) status before now same own = no_stores o files plan status before now same own
+stores_none o files (Some (Channels plan)) status before now same own = no_set_stores o files plan status before now same own
 
 -- ---- the cache behind a run
 

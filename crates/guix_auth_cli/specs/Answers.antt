@@ -10,13 +10,14 @@ use Rattle.channel_deps.specs.Outside.{Outside}
 use Rattle.run_answers.specs.Answers.{Answer}
 use Rattle.authenticate_run.specs.Answers.{IsAnswerBy, unread_of}
 use Rattle.authenticate_run.specs.Outside.{OfKeys, HasSoundOrNone}
-use Rattle.channels_run.specs.Answers.{IsListAnswer, list_unread, OfSet}
-use Rattle.guix_auth_cli.specs.declared.help.TheConstants.{HELP}
+use Rattle.authenticate_run.specs.Run.{PutsFor, StoresFor}
+use Rattle.channels_run.specs.Answers.{IsListAnswer, list_unread, OfSet, SetPutsFor, SetStoresFor}
+use Rattle.guix_auth_cli.specs.Help.{help_text}
 
 -- the answer to a command, or to words that state none
 abbrev pub IsAnswerTo : Outside → Kept → Option Command → Answer → Type 0
 IsAnswerTo o files None answer = answer ≡ record { status = 2; out = []; err = line_of (codes "bad words; see guix-auth --help"); kept = o.kept }
-IsAnswerTo o files (Some Help) answer = answer ≡ record { status = 0; out = HELP.now; err = []; kept = o.kept }
+IsAnswerTo o files (Some Help) answer = answer ≡ record { status = 0; out = help_text; err = []; kept = o.kept }
 IsAnswerTo o files (Some (Authenticate plan)) answer = IsAnswerBy o files plan answer
 IsAnswerTo o files (Some (Channels plan)) answer = IsListAnswer o files plan answer
 
@@ -46,3 +47,15 @@ asks_for_check _ = false
 abbrev pub MayWarn : Option Command → Type 0
 MayWarn (Some (Channels plan)) = Unit {0}
 MayWarn _ = ⊥
+
+-- what a command puts among the records, whatever is kept, sound or not
+abbrev pub PutsBy : Outside → Kept → Option Command → Kept → Type 0
+PutsBy o files (Some (Authenticate plan)) after = PutsFor o files plan after
+PutsBy o files (Some (Channels plan)) after = SetPutsFor o files plan after
+PutsBy o files _ after = after ≡ o.kept
+
+-- how often the store is called by a command that ends with this status
+abbrev pub StoresBy : Outside → Kept → Option Command → ℕ → ℕ → ℕ → Type 0
+StoresBy o files (Some (Authenticate plan)) status before now = StoresFor o files plan status before now
+StoresBy o files (Some (Channels plan)) status before now = SetStoresFor o files plan status before now
+StoresBy o files _ status before now = now ≡ before

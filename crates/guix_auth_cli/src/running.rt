@@ -12,8 +12,8 @@ ghost use Rattle.run_answers.specs.Ended.{IsItOrUnread, Shows, stored, sunk};
 ghost use Rattle.run_answers.specs.Faults.{IsChildFault, IsOtherFault, counts, ends};
 ghost use Rattle.authenticate_run.specs.Outside.{OfKeys, HasSoundCache, HasSoundOrNone};
 ghost use Rattle.authenticate_run.specs.Run.{KeepsOrStores, AsksFor, IsAuthenticFor};
-ghost use Rattle.channels_run.specs.Answers.{IsAcceptedSet, KeepsOrStoresAll, OfSet};
-ghost use Rattle.guix_auth_cli.specs.Answers.{IsAnswerOf, IsSoundOrNoneFor, MayWarn, asks_for_check, unread_by};
+ghost use Rattle.channels_run.specs.Answers.{IsAcceptedSet, KeepsOrStoresAll, OfSet, SetAsksFor};
+ghost use Rattle.guix_auth_cli.specs.Answers.{IsAnswerOf, IsSoundOrNoneFor, MayWarn, PutsBy, StoresBy, asks_for_check, unread_by};
 
 use crate::help::HELP;
 use auth_words::{Command, read_words};
@@ -99,6 +99,16 @@ pub fn run<G: GitPort, V: SigPort, K: Keeper, R: FileRoom, O: Sink, E: Sink>(
     ensures one_store { AtMostOnce (K.stores keeper.old) (K.stores keeper.new) }
     ensures unstored { result ≢ 0 → result ≢ 5 → result ≢ 6 → K.stores keeper.new ≡ K.stores keeper.old }
 
+    // Where there is a verdict that has something to be kept it is called once, and it isn't called where a verdict has nothing, or
+    // there is none.
+    ensures stores { IsTrue (G.tells git.old) → IsTrue (V.tells gpgv.old) → IsTrue (K.tells keeper.old) → IsTrue (R.tells room.old) →
+        StoresBy (outside (G.table git.old) (V.table gpgv.old) (K.kept keeper.old)) (R.files room.old) (command_of words.now) result (K.stores keeper.old) (K.stores keeper.new) }
+
+    // Whatever is kept, sound or not: only what the verdicts over it have to be kept is put, at the keys of the plan or of the
+    // channels alone.
+    ensures puts { IsTrue (G.tells git.old) → IsTrue (V.tells gpgv.old) → IsTrue (K.tells keeper.old) → IsTrue (K.tells keeper.new) → IsTrue (R.tells room.old) →
+        PutsBy (outside (G.table git.old) (V.table gpgv.old) (K.kept keeper.old)) (R.files room.old) (command_of words.now) (K.kept keeper.new) }
+
     // And a sound cache is sound behind it.
     ensures sound { (plan : Plan) → command_of words.now ≡ Some (Authenticate plan) →
         IsTrue (G.tells git.old) → IsTrue (V.tells gpgv.old) → IsTrue (K.tells keeper.old) → IsTrue (K.tells keeper.new) → IsTrue (R.tells room.old) →
@@ -118,6 +128,11 @@ pub fn run<G: GitPort, V: SigPort, K: Keeper, R: FileRoom, O: Sink, E: Sink>(
     ensures asked { (plan : Plan) → command_of words.now ≡ Some (Authenticate plan) →
         IsTrue (G.tells git.old) → IsTrue (V.tells gpgv.old) → IsTrue (K.tells keeper.old) → IsTrue (R.tells room.old) →
         AsksFor (outside (G.table git.old) (V.table gpgv.old) (K.kept keeper.old)) (R.files room.old) plan result (V.asked gpgv.old) (V.asked gpgv.new) }
+
+    // For a set the same of each channel that is checked, up to the one that is refused.
+    ensures set_asked { (plan : ChannelsPlan) → command_of words.now ≡ Some (Channels plan) →
+        IsTrue (G.tells git.old) → IsTrue (V.tells gpgv.old) → IsTrue (K.tells keeper.old) → IsTrue (R.tells room.old) →
+        SetAsksFor (outside (G.table git.old) (V.table gpgv.old) (K.kept keeper.old)) (R.files room.old) plan result (V.asked gpgv.old) (V.asked gpgv.new) }
 
     // Where the channels of a set aren't checked, gpgv isn't asked.
     ensures set_unasked { (plan : ChannelsPlan) → command_of words.now ≡ Some (Channels plan) → plan.check ≡ false → V.asked gpgv.new ≡ V.asked gpgv.old }

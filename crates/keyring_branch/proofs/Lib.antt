@@ -3,6 +3,7 @@ pub mod BlockLemmas
 pub mod BranchLemmas
 pub mod FaultLemmas
 pub mod FileLemmas
+pub mod GenuineLemmas
 pub mod GrammarLemmas
 pub mod LengthLemmas
 pub mod LineLemmas

@@ -3,6 +3,7 @@ pub mod ArmourFaults
 pub mod ArmourReading
 pub mod Fail
 pub mod FrontPacket
+pub mod Genuine
 pub mod Inside
 pub mod KeyFile
 pub mod Keyring

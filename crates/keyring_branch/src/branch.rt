@@ -1,9 +1,11 @@
 //! Reading the keyring of a branch.
-ghost use Rattle.std.specs.Prelude.{◌≡◌, ◌≢◌, codes, Ok, Err, IfOk, IfErr, OnOk, IsTrue};
+ghost use Rattle.std.specs.Prelude.{◌≡◌, ◌≢◌, length, codes, Ok, Err, IfOk, IfErr, OnOk, IsTrue};
 ghost use Rattle.std.specs.FinSet.{union};
 ghost use Rattle.std.specs.List.{AllByRecursion};
 ghost use Rattle.child_ports.specs.Causes.{PortFailsByCount};
 ghost use Rattle.child_ports.specs.Git.{IsName};
+ghost use Rattle.child_ports.specs.Named.{NamedAtMost};
+ghost use Rattle.keyring_branch.specs.Genuine.{IsTreeOfItsId, IsPartOf, IsAddedTo, IsOfItsTree};
 ghost use Rattle.keyring_branch.specs.Keyring.{IsKeyring};
 ghost use Rattle.keyring_branch.specs.KeyringFaults.{IsPlainBad, IsPlain, KeyringFailsByCount};
 ghost use Rattle.keyring_branch.specs.KeyringReading.{tree_by_kind, root_of, part_by_kind, file_of, with_part, with_files, key_files, keyring_of, Gives};
@@ -17,7 +19,7 @@ mod tests;
 use crate::key_file::{KeyPart, read_part};
 use crate::{FileBad, KeyFail, Keyring, KeyringFail};
 use child_ports::{Bytes, GitPort, KeySet, Names, PortFail};
-use object_frames::{Fetched, FrameFail, Id, Kind, Object, fetch};
+use object_frames::{Fetched, FrameFail, Id, Kind, Object, fetch, fetch_by_id};
 use std::alloc::{AllocError, Global};
 use tree_entries::{Entries, Entry, TreeFail, files_ending};
 
@@ -51,7 +53,9 @@ fn fetch_root<G: GitPort>(
     requires { AllByRecursion IsName names.now }
     ensures told { G.tells git.new ≡ G.tells git.old }
     ensures table { G.table git.new ≡ G.table git.old }
+    ensures named { NamedAtMost (length names.now) (G.named git.old) (G.named git.new) }
     ensures exact { IsTrue (G.tells git.old) → Gives result (root_of (G.table git.old) dir.now names.now) }
+    ensures genuine { IfOk result (λ root. IsTreeOfItsId root) }
     ensures cause { KeyringFailsByCount (G.faults git.old) (G.faults git.new) result }
     ensures plain { IfErr result (λ fault. IsPlain fault) }
 {
@@ -91,15 +95,18 @@ fn read_file<G: GitPort>(
 ) -> Result<Result<KeyPart, FileBad>, PortFail>
     ensures told { G.tells git.new ≡ G.tells git.old }
     ensures table { G.table git.new ≡ G.table git.old }
+    ensures named { G.named git.new ≡ G.named git.old }
     ensures exact { IfOk result (λ part. IsTrue (G.tells git.old) → part ≡ file_of (G.table git.old) dir.now id.now) }
+    ensures genuine { IfOk result (λ part. IfOk part (IsPartOf id.now)) }
     ensures cause { PortFailsByCount (G.faults git.old) (G.faults git.new) result }
     ensures plain { IfOk result (λ part. IfErr part (λ fault. IsPlainBad fault)) }
 {
-    let mut name = [0u8; 40];
-    id.write_hex(&mut name);
-    match fetch(alloc, git, dir, name.as_slice(), KEY_FILE_LIMIT) {
+    match fetch_by_id(alloc, git, dir, id, KEY_FILE_LIMIT) {
         Ok(Fetched::Missing) => Ok(Err(FileBad::Missing)),
-        Ok(Fetched::Found(object)) => Ok(part_of(alloc, &object)?),
+        Ok(Fetched::Found(object)) => {
+            let part = part_of(alloc, &object)?;
+            Ok(part)
+        }
         Err(FrameFail::Failed) => Err(PortFail::Failed),
         Err(FrameFail::Memory) => Err(PortFail::Memory),
         Err(fail) => Ok(Err(FileBad::Frame(fail))),
@@ -145,7 +152,9 @@ fn with_files<G: GitPort>(
 ) -> Result<Keyring, KeyringFail>
     ensures told { G.tells git.new ≡ G.tells git.old }
     ensures table { G.table git.new ≡ G.table git.old }
+    ensures named { G.named git.new ≡ G.named git.old }
     ensures exact { IsTrue (G.tells git.old) → Gives result (with_files (G.table git.old) dir.now start files.now) }
+    ensures genuine { IfOk result (λ keyring. IsAddedTo start files.now keyring) }
     ensures cause { KeyringFailsByCount (G.faults git.old) (G.faults git.new) result }
     ensures plain { IfErr result (λ fault. IsPlain fault) }
 {
@@ -196,6 +205,10 @@ pub fn read_keyring<G: GitPort>(
     // What is read is the keyring that the names stand for, and what they stand for is the reading.
     ensures found { IfOk result (λ keyring. IsTrue (G.tells git.old) → IsKeyring (G.table git.old) dir.now names.now keyring) }
     ensures only { (keyring : Keyring) → IsKeyring (G.table git.old) dir.now names.now keyring → keyring_of (G.table git.old) dir.now names.now ≡ Ok keyring }
+    // Over any port, what is read is the keyring of a tree that has its id, and no more names are asked than
+    // there are.
+    ensures genuine { IfOk result (λ keyring. IsOfItsTree keyring) }
+    ensures named { NamedAtMost (length names.now) (G.named git.old) (G.named git.new) }
     // Over any port, `GitFault` comes exactly where a call failed. It is told as such, and so is want of memory.
     ensures cause { KeyringFailsByCount (G.faults git.old) (G.faults git.new) result }
     ensures plain { IfErr result (λ fault. IsPlain fault) }

@@ -10,7 +10,7 @@ use tree_entries::TreeFail;
 pub enum FileBad {
     /// Nothing has its id.
     Missing,
-    /// What git answers to its id is no object.
+    /// Git's answer to its id isn't the object's frame, or the object is longer than a key file may be.
     Frame(FrameFail),
     /// It is of this kind, and not a blob.
     Kind(Kind),
@@ -25,7 +25,7 @@ pub enum KeyringFail {
     GitFault,
     /// Each of the names is missing.
     NoBranch,
-    /// What git answers to the first name that isn't missing is no object.
+    /// Git's answer to the first name that isn't missing is no object's frame, or the object is longer than a tree may be.
     Frame(FrameFail),
     /// It is of this kind, and not a tree.
     Kind(Kind),

@@ -1,10 +1,11 @@
 -- Ids in hexadecimal digits.
-use Rattle.std.proofs.Common.{◌≡◌, ◌≢◌, ℕ, suc, ◌/◌, ◌%◌, ◌<◌, true, List, [], ◌∷◌, length, refl, sym, ap, ◌∙◌, arith}
-use Rattle.std.specs.Prelude.{slice_index}
+use Rattle.std.proofs.Common.{◌≡◌, ◌≢◌, ℕ, suc, Bool, false, ◌/◌, ◌%◌, ◌<◌, true, List, [], ◌∷◌, length, refl, sym, ap, ◌∙◌, arith, eq-eqb}
+use Rattle.std.specs.Prelude.{slice_index, if◌then◌else◌}
 use Rattle.std.specs.List.{list_all}
 use Rattle.std.proofs.lemmas.Bool.{false≢true}
 use Rattle.std.proofs.lemmas.List.Sums.{AllPass-from_list_all}
 use Rattle.child_ports.specs.Git.{NoLineEnd, IsName}
+use Rattle.child_ports.specs.Named.{is_full_id}
 use Rattle.child_ports.specs.Framed.{is_lower_hex_digit}
 use Rattle.hex.proofs.HexLemmas.{length-encode_with}
 use Rattle.hex.specs.Hex.{encode_lower, encode_with, lower_digits, IsBytes}
@@ -39,3 +40,9 @@ no_end_hex (x ∷ xs) h =
 -- an id in hexadecimal can be asked
 pub hex_name : (id : List ℕ) → IsId id → IsName (encode_lower id)
 hex_name id is = record { short = omega (arith, length-hex id is); one_line = no_end_hex id is.bytes }
+
+-- an id in hexadecimal is one in full
+pub hex_full : (id : List ℕ) → IsId id → is_full_id (encode_lower id) ≡ true
+unfolding is_full_id
+hex_full id is =
+    ap (λ (v : Bool). if v then list_all is_lower_hex_digit (encode_lower id) else false) (eq-eqb (length (encode_lower id)) 40 (length-hex id is)) ∙ hex_digits id is.bytes

@@ -18,16 +18,18 @@ use Rattle.object_frames.specs.declared.head.Head.TheVariants as head
 use Rattle.object_frames.specs.declared.body.Body.{Body}
 use Rattle.object_frames.specs.declared.body.Body.TheVariants.{Whole, Cut, Open}
 use Rattle.object_frames.specs.declared.object.Fetched.{Fetched}
-use Rattle.object_frames.specs.declared.object.Fetched.TheVariants.{Found}
+use Rattle.object_frames.specs.declared.object.Fetched.TheVariants.{Missing, Found}
 use Rattle.object_frames.specs.declared.frame_fail.FrameFail.{FrameFail}
 use Rattle.object_frames.specs.declared.frame_fail.FrameFail.TheVariants as fails
 use Rattle.object_frames.specs.Object.{type_word, object_id}
 use Rattle.object_frames.specs.Frame.{header_line}
 use Rattle.object_frames.specs.Head.{HasHeader, StartsWith, line_len, head_of}
 use Rattle.object_frames.specs.Body.{body_of}
-use Rattle.object_frames.specs.Fetched.{IsFullId, IsFetched, is_full_id, is_other_id, object_of, by_body, by_head, fetched_of, Gives}
+use Rattle.child_ports.specs.Named.{is_full_id}
+use Rattle.object_frames.specs.Fetched.{IsFullId, IsFetched, IsGenuine, IsOfId, is_other_id, object_of, by_body, by_head, fetched_of, Gives}
 use Rattle.object_frames.specs.Faults.{IsFrameFault, IsTaken, IsHeaded, MayBlame, FetchFailsByCount}
-use Rattle.object_frames.proofs.IdLemmas.{length-hex, hex_digits}
+use Rattle.object_frames.specs.Id.{IsId}
+use Rattle.object_frames.proofs.IdLemmas.{length-hex, hex_digits, hex_full}
 use Rattle.object_frames.proofs.ReadingLemmas.{head_is, rest_at, length_at}
 
 -- ---- the function, step by step
@@ -315,6 +317,31 @@ outcome limit name answer framed (head.Object header) rest said = of_object limi
 pub outcome_is : (limit : ℕ) (name answer : List ℕ) → IsFramed name answer → (h : Head) (rest : List ℕ) → StartsWith name answer h rest
     → (value : Result Fetched FrameFail) → by_head limit name h rest ≡ value → IsOutcome limit name answer value
 outcome_is limit name answer framed h rest said value is = subst (IsOutcome limit name answer) is (outcome limit name answer framed h rest said)
+
+-- ---- whatever git answers
+
+abbrev pub IsGiven : ℕ → List ℕ → Result Fetched FrameFail → Type 0
+IsGiven limit name result = IfOk result (IsGenuine limit name)
+
+-- an object that was read whole is genuine
+pub genuine_of : (limit : ℕ) (name : List ℕ) (header : Header) (content : List ℕ) → is_other_id name header.id ≡ false → length content ≤ limit
+    → (result : Result Fetched FrameFail) → result ≡ object_of header content → IsGiven limit name result
+unfolding object_of
+genuine_of limit name header content asked fits result is =
+    let computed = object_id header.kind content in
+    let found : Fetched = Found (record { id = header.id; kind = header.kind; content = content }) in
+    subst (IsGiven limit name) (sym is)
+    (elim (bytes_eq computed header.id) as (λ v. v ≡ bytes_eq computed header.id → IsGiven limit name (if v then Ok found else Err (fails.WrongId header.id computed))) [
+      | true ↦ λ t. record { digest = sym ((bytes_eq-Decides computed header.id).0 (sym t)); within = fits; asked = asked_if name header.id asked }
+      | false ↦ λ t. tt
+    ] refl)
+
+-- what is given for an id in full has this id
+pub given_of_id : (limit : ℕ) (id : List ℕ) → IsId id → (result : Result Fetched FrameFail) → IsGiven limit (encode_lower id) result
+    → IfOk result (IsOfId limit id)
+given_of_id limit id is (Ok Missing) h = tt
+given_of_id limit id is (Ok (Found object)) h = (h.asked (full_if (encode_lower id) (hex_full id is)) ∙ ap encode_lower h.digest, h.within)
+given_of_id limit id is (Err fail) h = tt
 
 -- ---- the function answers neither of the free faults
 

@@ -1,8 +1,9 @@
 -- What a fetch finds in the answer to a name (git-cat-file(1), "BATCH OUTPUT"; FIPS 180-4 for SHA-1).
-use Rattle.std.specs.Prelude.{◌≡◌, ◌⊎◌, ℕ, ◌+◌, ◌==◌, ◌≤◌, ◌<◌, ◌^◌, not, List, drop, length, bytes_eq, nat_lt, Bool, false, if◌then◌else◌, Result, Ok, Err}
-use Rattle.std.specs.List.{AllPass, list_all}
+use Rattle.std.specs.Prelude.{◌≡◌, ◌⊎◌, ℕ, ◌+◌, ◌≤◌, ◌<◌, ◌^◌, not, List, drop, length, bytes_eq, nat_lt, Bool, false, if◌then◌else◌, Result, Ok, Err}
+use Rattle.std.specs.List.{AllPass}
 use Rattle.child_ports.specs.Git.{missing, ambiguous}
 use Rattle.child_ports.specs.Framed.{object_frame, is_lower_hex_digit}
+use Rattle.child_ports.specs.Named.{is_full_id}
 use Rattle.hex.specs.Hex.{encode_lower}
 use Rattle.object_frames.specs.declared.kind.Kind.{Kind}
 use Rattle.object_frames.specs.declared.header.Header.{Header}
@@ -41,11 +42,26 @@ abbrev pub IsFetched : ℕ → List ℕ → List ℕ → Fetched → Type 0
 IsFetched limit name answer Missing = (answer ≡ missing name) ⊎ (answer ≡ ambiguous name)
 IsFetched limit name answer (Found object) = IsFound limit name answer object.id object.kind object.content
 
--- ---- the same as a function, with the faults
+-- ---- what holds of an object whatever git answers
 
--- whether a name is an id in full
-unfoldable pub is_full_id : List ℕ → Bool
-is_full_id name = if length name == 40 then list_all is_lower_hex_digit name else false
+-- Its id is that of its kind and content, which is within the limit; and it is the one that was asked for, where an id in
+-- full was asked.
+pub record HasItsId (limit : ℕ) (name id : List ℕ) (kind : Kind) (content : List ℕ) : Type 0 where
+  pub digest : id ≡ object_id kind content
+  pub within : length content ≤ limit
+  pub asked : IsFullId name → name ≡ encode_lower id
+
+-- no object, or one that has its id
+abbrev pub IsGenuine : ℕ → List ℕ → Fetched → Type 0
+IsGenuine limit name Missing = Unit {0}
+IsGenuine limit name (Found object) = HasItsId limit name object.id object.kind object.content
+
+-- no object, or one whose kind and content have this id, by its digits, within the limit
+abbrev pub IsOfId : ℕ → List ℕ → Fetched → Type 0
+IsOfId limit id Missing = Unit {0}
+IsOfId limit id (Found object) = (encode_lower id ≡ encode_lower (object_id object.kind object.content)) × (length object.content ≤ limit)
+
+-- ---- the same as a function, with the faults
 
 -- whether it is an id in full, and not this one
 unfoldable pub is_other_id : List ℕ → List ℕ → Bool

@@ -26,6 +26,7 @@ fn read_content<G: GitPort>(
 ) -> Result<(Bytes, usize), PortFail>
     ensures told { G.tells git.new ≡ G.tells git.old }
     ensures table { G.table git.new ≡ G.table git.old }
+    ensures named { G.named git.new ≡ G.named git.old }
     ensures content { IfOk result (λ read. ReadsContent size (IsTrue (G.tells git.old)) (G.pending git.old) (G.pending git.new) read.0 read.1) }
     ensures cause { PortFailsByCount (G.faults git.old) (G.faults git.new) result }
 {
@@ -38,6 +39,7 @@ fn read_content<G: GitPort>(
 pub fn read_body<G: GitPort>(alloc: Global, git: &mut G, size: u64) -> Result<Body, PortFail>
     ensures told { G.tells git.new ≡ G.tells git.old }
     ensures table { G.table git.new ≡ G.table git.old }
+    ensures named { G.named git.new ≡ G.named git.old }
     ensures within { IfOk result (λ body. IsWithin size body) }
     ensures body { IfOk result (λ body. IsTrue (G.tells git.old) → body ≡ body_of size (G.pending git.old)) }
     ensures rest { IfOk result (λ body. IsTrue (G.tells git.old) → Leaves (G.pending git.old) (G.pending git.new) body) }

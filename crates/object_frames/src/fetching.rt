@@ -1,35 +1,17 @@
 //! Fetching an object.
 ghost use Rattle.std.specs.Prelude.{◌≡◌, [], IfOk, IfErr, OnOk, IsTrue};
-ghost use Rattle.std.specs.List.{list_all};
-ghost use Rattle.child_ports.specs.Framed.{is_lower_hex_digit};
 ghost use Rattle.child_ports.specs.Git.{IsName, answer};
-ghost use Rattle.object_frames.specs.Fetched.{IsFetched, fetched_of, is_full_id, is_other_id, object_of, Gives};
+ghost use Rattle.child_ports.specs.Named.{NamedAtMost, is_full_id};
+ghost use Rattle.hex.specs.Hex.{encode_lower};
+ghost use Rattle.object_frames.specs.Fetched.{IsFetched, IsGenuine, IsOfId, fetched_of, is_other_id, object_of, Gives};
 ghost use Rattle.object_frames.specs.Faults.{MayBlame, IsFrameFault, FetchFailsByCount};
 
 use crate::body::{Body, read_body};
-use crate::fronts::is_lower_hex;
 use crate::head::{Head, read_head};
 use crate::header::Header;
 use crate::{Fetched, FrameFail, Id, Object, id_of};
-use child_ports::{Bytes, GitPort};
+use child_ports::{Bytes, GitPort, is_full_id};
 use std::alloc::Global;
-
-fn all_lower_hex(text: &[u8]) -> bool
-    ensures { result ≡ list_all is_lower_hex_digit text.now }
-{
-    text.iter().all(|b| is_lower_hex(*b))
-}
-
-#[tactic(auto, unfolding(crate::specs::Fetched::is_full_id))]
-// Whether a name is an id in full.
-fn is_full_id(name: &[u8]) -> bool
-    ensures { result ≡ is_full_id name.now }
-{
-    if name.len() != 40 {
-        return false;
-    }
-    all_lower_hex(name)
-}
 
 #[tactic(auto, unfolding(crate::specs::Fetched::is_other_id))]
 // Whether a name is an id in full, and another one.
@@ -80,7 +62,10 @@ pub fn fetch<G: GitPort>(
     ensures end { OnOk result (IsTrue (G.tells git.old) → G.pending git.new ≡ []) }
     ensures found { IfOk result (λ fetched. IsTrue (G.tells git.old) → IsFetched limit name.now (answer (G.table git.old) dir.now name.now) fetched) }
     ensures fault { IfErr result (λ fail. IsTrue (G.tells git.old) → MayBlame (IsFrameFault limit name.now (answer (G.table git.old) dir.now name.now)) fail) }
-    // Over any port.
+    // Over any port: what is given is an object, a name is asked once at most, and an id in full isn't counted as one.
+    ensures genuine { IfOk result (λ fetched. IsGenuine limit name.now fetched) }
+    ensures named { NamedAtMost 1 (G.named git.old) (G.named git.new) }
+    ensures by_id { IsTrue (is_full_id name.now) → G.named git.new ≡ G.named git.old }
     ensures cause { FetchFailsByCount (G.faults git.old) (G.faults git.new) result }
 {
     let header = match read_head(git, dir, name)? {
@@ -100,4 +85,25 @@ pub fn fetch<G: GitPort>(
         Body::Cut(n) => Err(FrameFail::Truncated(header.len + n)),
         Body::Open => Err(FrameFail::NoEnd),
     }
+}
+
+/// Asks for the object of an id, by its digits.
+pub fn fetch_by_id<G: GitPort>(
+    alloc: Global,
+    git: &mut G,
+    dir: &str,
+    id: &Id,
+    limit: u64,
+) -> Result<Fetched, FrameFail>
+    ensures told { G.tells git.new ≡ G.tells git.old }
+    ensures table { G.table git.new ≡ G.table git.old }
+    ensures exact { IsTrue (G.tells git.old) → Gives result (fetched_of limit (encode_lower id.now) (answer (G.table git.old) dir.now (encode_lower id.now))) }
+    // Over any port: what is given is the object of this id, and no name is asked that can come to stand for another.
+    ensures genuine { IfOk result (λ fetched. IsOfId limit id.now fetched) }
+    ensures named { G.named git.new ≡ G.named git.old }
+    ensures cause { FetchFailsByCount (G.faults git.old) (G.faults git.new) result }
+{
+    let mut name = [0u8; 40];
+    id.write_hex(&mut name);
+    fetch(alloc, git, dir, &name, limit)
 }

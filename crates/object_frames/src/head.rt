@@ -3,6 +3,7 @@ ghost use Rattle.std.specs.Prelude.{◌≡◌, ◌≢◌, ◌⊎◌, ◌≤◌, 
 ghost use Rattle.child_ports.specs.Causes.{FailsByCount};
 ghost use Rattle.child_ports.specs.Git.{IsName, answer};
 ghost use Rattle.child_ports.specs.Framed.{IsFramed};
+ghost use Rattle.child_ports.specs.Named.{NamedAtMost, is_full_id};
 ghost use Rattle.object_frames.specs.Head.{IsHead, IsOddHead, IsSmallHead, StartsWith};
 
 use crate::fronts::front_of;
@@ -79,6 +80,8 @@ pub fn read_head<G: GitPort>(git: &mut G, dir: &str, name: &[u8]) -> Result<Head
     requires { IsName name.now }
     ensures told { G.tells git.new ≡ G.tells git.old }
     ensures table { G.table git.new ≡ G.table git.old }
+    ensures named { NamedAtMost 1 (G.named git.old) (G.named git.new) }
+    ensures by_id { IsTrue (is_full_id name.now) → G.named git.new ≡ G.named git.old }
     ensures head { IfOk result (λ head. IsTrue (G.tells git.old) → StartsWith name.now (answer (G.table git.old) dir.now name.now) head (G.pending git.new)) }
     ensures small { IfOk result IsSmallHead }
     ensures framed { IsTrue (G.tells git.old) → IsFramed name.now (answer (G.table git.old) dir.now name.now) }

@@ -1,7 +1,8 @@
 //! The id of an object.
-ghost use Rattle.std.specs.Prelude.{◌≡◌, ◌↔◌, ◌≢◌, List, ℕ, length, IfSome, IfNone, IsSome, Ok};
+ghost use Rattle.std.specs.Prelude.{◌≡◌, ◌↔◌, ◌≢◌, List, ℕ, length, IfSome, IfNone, IsSome, IsTrue, Ok};
 ghost use Rattle.std.specs.List.{AllPass};
 ghost use Rattle.child_ports.specs.Git.{IsName};
+ghost use Rattle.child_ports.specs.Named.{is_full_id};
 ghost use Rattle.object_frames.specs.Id.{IsId, id_in};
 ghost use Rattle.hex.specs.Hex.{decode_of, encode_lower, is_hex_digit};
 
@@ -81,10 +82,11 @@ impl Id {
         let _ = hex::encode_to_slice(self.bytes.as_slice(), out);
     }
 
-    /// Writes the 40 digits, in lower case. They are a name that can be asked.
+    /// Writes the 40 digits, in lower case. They are a name that can be asked, and an id in full.
     pub fn write_hex(&self, out: &mut [u8; 40])
         ensures digits { out.new ≡ encode_lower self.now }
         ensures name { IsName out.new }
+        ensures full { IsTrue (is_full_id out.new) }
         ensures id { IsId self.now }
     {
         self.write_digits(out);

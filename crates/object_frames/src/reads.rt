@@ -9,6 +9,7 @@ use child_ports::{Failed, GitPort};
 pub fn read_full<G: GitPort>(git: &mut G, buf: &mut [u8]) -> Result<usize, Failed>
     ensures told { G.tells git.new ≡ G.tells git.old }
     ensures table { G.table git.new ≡ G.table git.old }
+    ensures named { G.named git.new ≡ G.named git.old }
     ensures room { IfOk result (λ n. n ≤ length buf.old) }
     ensures bytes { IfOk result (λ n. IsTrue (G.tells git.old) → G.pending git.old ≡ take n buf.new ++ G.pending git.new) }
     ensures short { IfOk result (λ n. IsTrue (G.tells git.old) → n < length buf.old → G.pending git.new ≡ []) }
@@ -29,6 +30,7 @@ pub fn read_full<G: GitPort>(git: &mut G, buf: &mut [u8]) -> Result<usize, Faile
 pub fn next_byte<G: GitPort>(git: &mut G) -> Result<Option<u8>, Failed>
     ensures told { G.tells git.new ≡ G.tells git.old }
     ensures table { G.table git.new ≡ G.table git.old }
+    ensures named { G.named git.new ≡ G.named git.old }
     ensures byte { IfOk result (λ next. IsTrue (G.tells git.old) → MatchOption next ((G.pending git.old ≡ []) × (G.pending git.new ≡ [])) (λ b. G.pending git.old ≡ b ∷ G.pending git.new)) }
     ensures cause { FailsByCount (G.faults git.old) (G.faults git.new) result }
 {
@@ -49,6 +51,7 @@ pub fn read_line<G: GitPort>(
     requires { room ≤ 1035 }
     ensures told { G.tells git.new ≡ G.tells git.old }
     ensures table { G.table git.new ≡ G.table git.old }
+    ensures named { G.named git.new ≡ G.named git.old }
     ensures room { IfOk result (λ n. n ≤ room) }
     ensures bytes { IfOk result (λ n. IsTrue (G.tells git.old) → G.pending git.old ≡ take n line.new ++ G.pending git.new) }
     ensures piece { IfOk result (λ n. IsTrue (G.tells git.old) → IsPiece room (take n line.new) (G.pending git.new)) }

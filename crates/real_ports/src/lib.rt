@@ -4,14 +4,19 @@
 //! holds, since what git, gpgv and the files of the system say is theirs; each counts the calls that failed.
 #![tactic(auto)]
 
+mod asked_child;
+mod calls;
 mod child_git;
 mod child_sig;
 mod counting;
 mod file_front;
+mod gpgv_answer;
+mod gpgv_files;
 mod header_line;
 mod locking;
 mod place;
 mod real_room;
+mod rest;
 mod running_child;
 mod std_sink;
 #[cfg(test)]

@@ -1,6 +1,7 @@
 //! A standard stream as a sink.
 ghost use Rattle.std.specs.Prelude.{[], false};
 
+use crate::counting::counted_call;
 use child_ports::{Failed, Sink};
 use std::io::Print;
 
@@ -26,12 +27,6 @@ impl<P: Print + Drop> Sink for StdSink<P> {
     ghost taken = { λ _. [] };
 
     fn put(&mut self, bytes: &[u8]) -> Result<(), Failed> {
-        match self.stream.write_all(bytes) {
-            Ok(()) => Ok(()),
-            Err(_) => {
-                self.faults = self.faults.saturating_add(1);
-                Err(Failed)
-            }
-        }
+        counted_call(self.stream.write_all(bytes), &mut self.faults)
     }
 }

@@ -61,6 +61,12 @@ no_fault SigFault git gpgv keeper = absurd (gpgv refl)
 no_fault KeepFault git gpgv keeper = absurd (keeper refl)
 no_fault Memory git gpgv keeper = (refl, refl)
 
+-- a file that gives nothing isn't told with status 0
+pub told_no_zero : (status : ℕ) → (status ≡ 3) ⊎ (status ≡ 5) ⊎ (status ≡ 6) → status ≢ 0
+told_no_zero status (inl three) = λ zero. absurd (omega (arith, zero, three))
+told_no_zero status (inr (inl five)) = λ zero. absurd (omega (arith, zero, five))
+told_no_zero status (inr (inr six)) = λ zero. absurd (omega (arith, zero, six))
+
 pub no_words : (fail : EngineFail) (status : ℕ) → (status ≡ status_of fail) ⊎ (status ≡ 6) → (status ≢ 2) × (status ≢ 0)
 no_words fail status (inr e) = (λ x. absurd (omega (arith, x, e)), λ x. absurd (omega (arith, x, e)))
 no_words (Name which what) status (inl e) = (λ x. absurd (omega (arith, x, e)), λ x. absurd (omega (arith, x, e)))

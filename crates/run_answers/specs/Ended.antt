@@ -1,6 +1,7 @@
 -- How a run ends: an answer is shown, and standard error has one line for a file that gives nothing.
-use Rattle.std.specs.Prelude.{◌≡◌, ◌≢◌, ◌⊎◌, ◌++◌, ℕ, List, Option, Some, Result, Err}
-use Rattle.child_ports.specs.Causes.{Rose, Stayed}
+use Rattle.std.specs.Prelude.{◌≡◌, ◌≢◌, ◌⊎◌, ◌++◌, ℕ, List, [], Option, Some, Result, Err}
+use Rattle.child_ports.specs.Causes.{Rose, Stayed, one_more}
+use Rattle.child_ports.specs.declared.keeper.Pair.{Pair}
 use Rattle.child_ports.specs.Keeper.{Kept}
 use Rattle.child_ports.specs.Sink.{TakesFront}
 use Rattle.auth_engine.specs.declared.engine_fail.EngineFail.TheVariants.{KeepFault, Memory}
@@ -48,6 +49,10 @@ IsItOrStopped IsIt kept before now answer = IsIt answer ⊎ IsStopped kept befor
 abbrev pub IsItOrUnread : (Answer → Type 0) → Option Answer → Kept → Counts → Counts → ℕ → ℕ → Answer → Type 0
 IsItOrUnread IsIt unread kept before now room_before room_now answer =
     IsItOrStopped IsIt kept before now answer ⊎ ((unread ≡ Some answer) × Rose room_before room_now)
+
+-- The store was called once where there are pairs to be kept, and else never.
+abbrev pub StoresOnce : List Pair → ℕ → ℕ → Type 0
+StoresOnce pairs before now = (pairs ≡ [] → now ≡ before) × (pairs ≢ [] → now ≡ one_more before)
 
 -- what is accepted was stored and printed, unless memory was wanting or the keeper failed
 abbrev pub IsFinished : Kept → Ending → ℕ → ℕ → Answer → Type 0

@@ -3,7 +3,7 @@ ghost use Rattle.std.specs.Prelude.{◌≡◌, ◌≢◌, ◌⊎◌, [], nat_eq,
 ghost use Rattle.child_ports.specs.Causes.{AtMostOnce, PortFailsByCount, Rose, Stayed};
 ghost use Rattle.child_ports.specs.Keeper.{with_pairs};
 ghost use Rattle.run_answers.specs.Answers.{Answer};
-ghost use Rattle.run_answers.specs.Ended.{IsFinished, IsOutput, Shows, stored, sunk};
+ghost use Rattle.run_answers.specs.Ended.{IsFinished, IsOutput, Shows, StoresOnce, stored, sunk};
 ghost use Rattle.run_answers.specs.Faults.{IsEndFault, ends};
 ghost use Rattle.run_answers.specs.Shown.{IsPut, IsStatus};
 
@@ -30,6 +30,7 @@ fn store_all<K: Keeper>(keeper: &mut K, pairs: &Pairs) -> Result<(), PortFail>
     ensures memory { IsErrOf result PortFail.Memory → IsTrue (K.tells keeper.old) → IsTrue (K.tells keeper.new) × (K.kept keeper.new ≡ K.kept keeper.old) }
     ensures cause { PortFailsByCount (K.faults keeper.old) (K.faults keeper.new) result }
     ensures one_store { AtMostOnce (K.stores keeper.old) (K.stores keeper.new) }
+    ensures stores { StoresOnce pairs.now (K.stores keeper.old) (K.stores keeper.new) }
 {
     if pairs.len() == 0 {
         return Ok(());
@@ -77,6 +78,7 @@ pub fn finish<K: Keeper, O: Sink, E: Sink>(
         (K.kept keeper.new ≡ K.kept keeper.old) ⊎ (K.kept keeper.new ≡ with_pairs (K.kept keeper.old) ending.now.store) }
     ensures done { IsTrue (K.tells keeper.old) → IsTrue (K.tells keeper.new) → result ≡ 0 → K.kept keeper.new ≡ with_pairs (K.kept keeper.old) ending.now.store }
     ensures one_store { AtMostOnce (K.stores keeper.old) (K.stores keeper.new) }
+    ensures stores { StoresOnce ending.now.store (K.stores keeper.old) (K.stores keeper.new) }
     ensures unchanged { IsTrue (K.tells keeper.old) → IsTrue (K.tells keeper.new) → result ≡ 6 → K.kept keeper.new ≡ K.kept keeper.old }
     ensures keeper_told { IsTrue (K.tells keeper.new) → IsTrue (K.tells keeper.old) }
     ensures keeper_tells { Stayed (K.faults keeper.old) (K.faults keeper.new) → IsTrue (K.tells keeper.old) → IsTrue (K.tells keeper.new) }

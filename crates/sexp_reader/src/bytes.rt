@@ -9,7 +9,7 @@ pub fn is_blank(b: u8) -> bool
     b == b' ' || b == b'\t' || b == b'\n' || b == 12 || b == b'\r'
 }
 
-/// A byte that no token, list or text may have outside texts and comments.
+/// A byte that stands in texts and comments alone: anywhere else it is refused.
 pub fn is_refused(b: u8) -> bool
     ensures { result ≡ grammar.is_refused b }
 {

@@ -4,3 +4,4 @@ pub mod MapLemmas
 pub mod UpsertLemmas
 pub mod SelectLemmas
 pub mod StepLemmas
+pub mod PlaceLemmas

@@ -8,7 +8,7 @@ use Rattle.sqlite_sql.specs.declared.ops.BinaryOp.TheVariants.{Compare}
 use Rattle.sqlite_sql.specs.declared.ops.CompareOp.TheVariants.{Eq}
 use Rattle.sqlite_schema.specs.declared.command.Source.TheVariants.{Values}
 use Rattle.sqlite_schema.specs.declared.command.Command.{Command}
-use Rattle.sqlite_schema.specs.declared.command.Command.TheVariants.{InsertOr, Select, CreateTable}
+use Rattle.sqlite_schema.specs.declared.command.Command.TheVariants.{InsertOr, Select, CreateTable, Nothing}
 use Rattle.sqlite_schema.specs.declared.command.Conflict.TheVariants.{Replace}
 use Rattle.sqlite.specs.Compile.{table_defined_by}
 use Rattle.sqlite_tied.specs.Compute.{everything}
@@ -74,3 +74,11 @@ put_plain = (refl, refl)
 pub make_plain : IsPlain (understood no_schema make_text)
 unfolding understood everything
 make_plain = (refl, refl)
+
+pub make_again_is : command_of (understood kept_schema make_text) ≡ Nothing
+unfolding understood everything
+make_again_is = refl
+
+pub make_again_plain : IsPlain (understood kept_schema make_text)
+unfolding understood everything
+make_again_plain = (refl, refl)

@@ -1,17 +1,16 @@
--- What the statements on the table do over a store that never fails for good.
+-- What the statements on the table do, over any store.
 use Rattle.std.specs.Prelude.{◌≡◌, ℕ, false, true, List, codes, Result, OnOk, OnErr, IsTrue}
 use Rattle.std.specs.FinMap as map
-use Rattle.sqlite_trees.specs.declared.store.Store.{Ghosts}
 use Rattle.sqlite.specs.declared.error.Error.{Error}
 use Rattle.sqlite.specs.State.{State, HasCleanDisk}
-use Rattle.sqlite.specs.Held.{Held, state}
 use Rattle.child_ports.specs.declared.keeper.Pair.{Pair}
 use Rattle.child_ports.specs.Keeper.{Kept, with_pairs}
 use Rattle.state_store.specs.KeptTable.{kept_schema, no_schema, AreKept, map_of}
 
--- in each state the store is open and has returned what was written, as memory does
-abbrev pub StaysOpen : {S : Type 0} → Ghosts S → Type 0
-StaysOpen {S} store = (held : Held S) → HasCleanDisk (state store held) × IsTrue (state store held).is_open
+-- the store is open, and so far it has returned what was written to it, as memory always has
+pub record IsIntact (s : State) : Type 0 where
+  pub clean : HasCleanDisk s
+  pub up : IsTrue s.is_open
 
 -- `INSERT` of a key and a value, in place of the row that has the key
 abbrev pub put_text : List ℕ
@@ -51,6 +50,7 @@ pub record IsSame (old new : State) : Type 0 where
 -- these pairs were put, in order, and nothing was committed
 pub record PutsInside (pairs : List Pair) (old new : State) : Type 0 where
   pub inside : IsInside new
+  pub uncommitted : new.committed ≡ old.committed
   pub put : kept_in new ≡ with_pairs (kept_in old) pairs
 
 -- all pairs are put, in order, or none

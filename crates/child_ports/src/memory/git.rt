@@ -3,6 +3,7 @@ ghost use Rattle.std.specs.Prelude.{◌≡◌, ◌↔◌, ◌≤◌, ◌<◌, �
 ghost use Rattle.std.specs.List.{AllByRecursion};
 ghost use Rattle.child_ports.specs.Git.{IsName, answer, missing, Hands};
 ghost use Rattle.child_ports.specs.Framed.{IsFramed, RowFits};
+ghost use Rattle.child_ports.specs.Named.{after_name};
 ghost use Rattle.child_ports.specs.Script.{unplayed, FailsNext, after_call, after_fault};
 ghost use Rattle.child_ports.specs.MemGit.{row_answer, handed_out};
 ghost use Rattle.child_ports.specs.MemGitInside.{current_bytes};
@@ -10,6 +11,7 @@ ghost use Rattle.child_ports.specs.Places.{ArePlaced};
 
 use crate::memory::Script;
 use crate::memory::places::Places;
+use crate::named::after_name;
 use crate::{Failed, GitPort, GitRow, GitRows, Numbers};
 use std::alloc::{AllocError, Global};
 use std::marker::Model;
@@ -30,6 +32,7 @@ pub struct MemGit {
     places: Places,
     script: Script,
     pieces: Numbers,
+    named: u64,
     // The place of the next piece.
     piece: usize,
     current: Current,
@@ -154,6 +157,7 @@ impl MemGit {
         ensures rows { IfOk result (λ git. git.rows ≡ rows) }
         ensures script { IfOk result (λ git. git.script ≡ unplayed fails) }
         ensures pieces { IfOk result (λ git. git.pieces ≡ pieces) }
+        ensures named { IfOk result (λ git. git.named ≡ 0) }
         ensures pending { IfOk result (λ git. git.pending ≡ []) }
     {
         let places = places_of(alloc, rows.as_slice())?;
@@ -162,11 +166,19 @@ impl MemGit {
             places,
             script: Script::new(fails),
             pieces,
+            named: 0,
             piece: 0,
             current: Current::Nothing,
             at: 0,
             absent: [0; 1033],
         })
+    }
+
+    /// How many names were asked that are no ids in full, whatever the answers. It stays at the last u64.
+    pub fn named(&self) -> u64
+        ensures { result ≡ self.now.named }
+    {
+        self.named
     }
 }
 
@@ -177,16 +189,20 @@ impl GitPort for MemGit {
 
     ghost table = { λ git. git.rows };
 
+    ghost named = { λ git. git.named };
+
     ghost pending = { λ git. git.pending };
 
     fn ask(&mut self, dir: &str, name: &[u8]) -> Result<(), Failed>
         requires { IsName name.now }
         ensures rows { self.new.rows ≡ self.old.rows }
+        ensures named { self.new.named ≡ after_name name.now self.old.named }
         ensures framed { IsFramed name.now (answer self.old.rows dir.now name.now) }
-        ensures ok { OnOk result (self.new ≡ record self.old { script = after_call self.old.script; pending = answer self.old.rows dir.now name.now }) }
-        ensures err { OnErr result (self.new ≡ record self.old { script = after_fault self.old.script }) }
+        ensures ok { OnOk result (self.new ≡ record self.old { script = after_call self.old.script; named = after_name name.now self.old.named; pending = answer self.old.rows dir.now name.now }) }
+        ensures err { OnErr result (self.new ≡ record self.old { script = after_fault self.old.script; named = after_name name.now self.old.named }) }
         ensures exact { IsErr result ↔ FailsNext self.old.script }
     {
+        self.named = after_name(self.named, name);
         self.script.count()?;
         self.current = match find_row(self.rows.as_slice(), &self.places, dir, name) {
             Some(i) => Current::Row(i),
@@ -198,6 +214,7 @@ impl GitPort for MemGit {
 
     fn read(&mut self, buf: &mut [u8]) -> Result<usize, Failed>
         ensures rows { self.new.rows ≡ self.old.rows }
+        ensures named { self.new.named ≡ self.old.named }
         ensures room { IfOk result (λ n. n ≤ length buf.old) }
         ensures size { IfOk result (λ n. n ≡ handed_out self.old.pieces (min (length self.old.pending) (length buf.old))) }
         ensures bytes { IfOk result (λ n. Hands self.old.pending self.new.pending n buf.new) }

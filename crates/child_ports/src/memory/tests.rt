@@ -81,6 +81,23 @@ fn git_fails_at_the_calls_of_its_script_alone(rt: HostRuntime) -> Result<(), Fai
 }
 
 #[test]
+fn git_counts_the_names_that_are_no_ids_in_full(rt: HostRuntime) -> Result<(), Fail> {
+    let mut git = git(&rt, rt.alloc(), &[], &[3], &[])?;
+    // the name, whether it can be asked, and how many names were asked by then
+    for (name, want, named) in [
+        ("0123456789abcdef0123456789abcdef01234567", Ok(()), 0),
+        ("refs/heads/keyring", Ok(()), 1),
+        ("refs/heads/keyring", Err(Failed), 2),
+        ("0123456789ABCDEF0123456789ABCDEF01234567", Ok(()), 3),
+        ("0123456789abcdef0123456789abcdef0123456", Ok(()), 4),
+    ] {
+        assert_eq!(rt; git.ask("d", name.as_bytes()), want, "at {name}");
+        assert_eq!(rt; git.named(), named, "after {name}");
+    }
+    Ok(())
+}
+
+#[test]
 fn gpgv_says_what_its_rows_say_and_counts_its_questions(rt: HostRuntime) -> Result<(), Fail> {
     let alloc = rt.alloc();
     let mut rows = SigRows::new(alloc);

@@ -1,5 +1,5 @@
 use Rattle.std.proofs.Common.{◌≡◌, List, ℕ, Option, Ok, Err, sym, subst, ◌∙◌}
-use Rattle.std.specs.Prelude.{IsTrue, All, Result}
+use Rattle.std.specs.Prelude.{IsTrue, IfOk, All, Result}
 use Rattle.std.specs.FinMap as map
 use Rattle.child_ports.specs.declared.git.GitRow.{GitRow}
 use Rattle.authorizations.specs.declared.scope.Scope.{Scope}
@@ -10,11 +10,11 @@ use Rattle.auth_engine.specs.declared.task.Verdict.{Verdict}
 use Rattle.auth_engine.specs.declared.engine_fail.EngineFail.{EngineFail}
 use Rattle.auth_engine.specs.Answers.{OnFinding}
 use Rattle.auth_engine.specs.Asked.{AsksFor}
-use Rattle.auth_engine.specs.Outcome.{IsFinding, IsOutcome}
+use Rattle.auth_engine.specs.Outcome.{IsFinding, IsOutcome, IsVerdict}
 use Rattle.auth_engine.specs.SoundCache.{IsSoundEntry}
 use Rattle.auth_engine.specs.Starting.{scope_of, world_in, entries_of, cached_of}
 use Rattle.auth_engine.proofs.AskedLemmas.{finding_asks}
-use Rattle.auth_engine.proofs.OutcomeLemmas.{cached_ok, entries_sound, finding_outcome, unread_outcome, on_map}
+use Rattle.auth_engine.proofs.OutcomeLemmas.{cached_ok, entries_sound, finding_outcome, verdict_over, unread_outcome, on_map}
 use Rattle.auth_engine.proofs.authenticating.check.Goals as goal
 
 pub returns-in-Err-clause-outcome : goal.returns-in-Err-clause-outcome
@@ -86,3 +86,27 @@ returns-clause-asked g c = λ git sig keeper.
     → AsksFor (world_in answers sigs task start.ring) task start entries result before now)
     (c.read_history.ensures.table ∙ c.in_ok-start.ensures.table) (c.decide.ensures.asked later sig) history.0 history.1 in
     finding_asks rows sigs task (map.get kept task.cache_key) before now start begins entries cached result asks
+
+pub returns-clause-verdict : goal.returns-clause-verdict
+returns-clause-verdict g c = λ git sig keeper.
+    let rows = g.G.GitPort.table c.args.git.now in
+    let sigs = g.V.SigPort.table c.args.sig.now in
+    let task = c.args.task.now in
+    let start = c.in_ok-start.start in
+    let entries = c.in_ok-entries.entries in
+    let result = c.decide.result in
+    let graph = c.in-Ok-read_history.graph in
+    let kept = g.K.Keeper.kept c.args.keeper.now in
+    let begins = c.in_ok-start.ensures.start git in
+    let cached : Ok entries ≡ entries_of (scope_of task start.ring) (map.get kept task.cache_key) = cached_ok entries _
+    (subst (λ (s : Scope). ◌≡◌ {A = Result (List Id) EngineFail} (Ok entries) (cached_of s (map.get kept task.cache_key))) c.in-Ok.ensures
+    (subst (λ (key : List ℕ). ◌≡◌ {A = Result (List Id) EngineFail} (Ok entries) (cached_of c.in-Ok.scope (map.get kept key))) c.as_str.ensures (c.in_ok-entries.ensures.entries keeper))) in
+    let told = subst IsTrue (sym c.in_ok-start.ensures.told) git in
+    let elsewhere = c.in-Ok-read_history.ensures.answer told sigs start.ring.bytes in
+    let history = subst (λ (answers : List GitRow). IsHistoryAnswer (world_of answers task.dir sigs start.ring.bytes) start.target task.intro (Ok graph)) c.in_ok-start.ensures.table
+    (subst (λ (dir : List ℕ). IsHistoryAnswer (world_of (g.G.GitPort.table c.find_start.new.git) dir sigs start.ring.bytes) start.target task.intro (Ok graph)) c.as_str-2.ensures elsewhere) in
+    let later = subst IsTrue (sym c.read_history.ensures.told) told in
+    let verdict = subst (λ (answers : List GitRow). IsWhole (world_in answers sigs task start.ring) start.target task.intro → HoldsHistory (world_in answers sigs task start.ring) start.target task.intro graph
+    → IfOk result (IsVerdict (world_in answers sigs task start.ring) task start entries))
+    (c.read_history.ensures.table ∙ c.in_ok-start.ensures.table) (c.decide.ensures.verdict later sig) history.0 history.1 in
+    verdict_over rows sigs task (map.get kept task.cache_key) start entries result begins cached verdict

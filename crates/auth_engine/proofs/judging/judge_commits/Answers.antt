@@ -42,6 +42,7 @@ loop-id-preserved g c =
     record {
       git_told = c.judge_commit.ensures.git_told ∙ inv.git_told;
       git_table = c.judge_commit.ensures.git_table ∙ inv.git_table;
+      named = c.judge_commit.ensures.named ∙ inv.named;
       git_faults = c.in_ok-key.ensures.git_fault ∙ inv.git_faults;
       sig_told = c.judge_commit.ensures.sig_told ∙ inv.sig_told;
       sig_table = c.judge_commit.ensures.sig_table ∙ inv.sig_table;

@@ -10,6 +10,7 @@ abbrev pub invariant-loop-id : goal.invariant-loop-id
 invariant-loop-id g l = record {
   git_told : g.G.GitPort.tells l.git ≡ g.G.GitPort.tells l.fn.git;
   git_table : g.G.GitPort.table l.git ≡ g.G.GitPort.table l.fn.git;
+  named : g.G.GitPort.named l.git ≡ g.G.GitPort.named l.fn.git;
   git_faults : g.G.GitPort.faults l.git ≡ g.G.GitPort.faults l.fn.git;
   sig_told : g.V.SigPort.tells l.sig ≡ g.V.SigPort.tells l.fn.sig;
   sig_table : g.V.SigPort.table l.sig ≡ g.V.SigPort.table l.fn.sig;

@@ -9,6 +9,7 @@ abbrev pub invariant-loop-id : goal.invariant-loop-id
 invariant-loop-id g l = record {
   told : g.G.GitPort.tells l.git ≡ g.G.GitPort.tells l.fn.git;
   table : g.G.GitPort.table l.git ≡ g.G.GitPort.table l.fn.git;
+  named : g.G.GitPort.named l.git ≡ g.G.GitPort.named l.fn.git;
   faults : g.G.GitPort.faults l.git ≡ g.G.GitPort.faults l.fn.git;
   so_far : IsTrue (g.G.GitPort.tells l.fn.git) →
       let w = git_world (g.G.GitPort.table l.fn.git) l.dir in

@@ -1,4 +1,4 @@
-use Rattle.std.proofs.Common.{◌≡◌, inl, inr, ℕ, List, Ok, sym, refl, subst}
+use Rattle.std.proofs.Common.{inl, inr, ℕ, List, sym, refl, subst}
 use Rattle.std.specs.Prelude.{IsTrue, IsOk, Result}
 use Rattle.child_ports.specs.KeySet.{Keys}
 use Rattle.auth_report.specs.declared.files.FileFail.{FileFail}
@@ -10,6 +10,8 @@ use Rattle.authenticate_run.specs.Outside.{historical_of, HasSoundOrNone, HasSou
 use Rattle.run_answers.specs.Ended.{stored, sunk, IsItOrStopped, Shows}
 use Rattle.authenticate_run.specs.Run.{KeepsOrStores}
 use Rattle.authenticate_run.proofs.PlanRunLemmas.{if_at, if_from, task_answers, task_complete, no_asks, no_keys_shown}
+use Rattle.run_answers.proofs.ShownLemmas.{told_no_zero}
+use Rattle.authenticate_run.proofs.StoreLemmas.{task_puts, task_stores, no_puts, no_stores}
 use Rattle.authenticate_run.proofs.running.run_authenticate.Goals as goal
 
 pub returns-in-Ok-clause-answer : goal.returns-in-Ok-clause-answer
@@ -79,3 +81,23 @@ pub returns-in-Err-clause-asked : goal.returns-in-Err-clause-asked
 returns-in-Err-clause-asked g c = λ git gpgv keeper room.
     let o = outside (g.G.GitPort.table c.args.git.now) (g.V.SigPort.table c.args.gpgv.now) (g.K.Keeper.kept c.args.keeper.now) in
     no_asks o (g.R.FileRoom.files c.args.room.now) c.args.plan.now c.in-Err.status _ _ refl (c.in-Err.ensures.given room) c.in-Err.ensures.status
+
+-- ---- what is put, and how often the store is called
+
+pub returns-in-Ok-clause-puts : goal.returns-in-Ok-clause-puts
+returns-in-Ok-clause-puts g c = λ git gpgv keeper after room.
+    task_puts (outside (g.G.GitPort.table c.args.git.now) (g.V.SigPort.table c.args.gpgv.now) (g.K.Keeper.kept c.args.keeper.now)) (g.R.FileRoom.files c.args.room.now) c.args.plan.now c.in-Ok.keys (c.in-Ok.ensures.keys room) (g.K.Keeper.kept c.run_task.new.keeper)
+    (c.run_task.ensures.puts git gpgv keeper after)
+
+pub returns-in-Ok-clause-stores : goal.returns-in-Ok-clause-stores
+returns-in-Ok-clause-stores g c = λ git gpgv keeper room.
+    task_stores (outside (g.G.GitPort.table c.args.git.now) (g.V.SigPort.table c.args.gpgv.now) (g.K.Keeper.kept c.args.keeper.now)) (g.R.FileRoom.files c.args.room.now) c.args.plan.now c.in-Ok.keys (c.in-Ok.ensures.keys room) c.run_task.result (g.K.Keeper.stores c.args.keeper.now) (g.K.Keeper.stores c.run_task.new.keeper)
+    (c.run_task.ensures.stores git gpgv keeper)
+
+pub returns-in-Err-clause-puts : goal.returns-in-Err-clause-puts
+returns-in-Err-clause-puts g c = λ git gpgv keeper after room.
+    no_puts (outside (g.G.GitPort.table c.args.git.now) (g.V.SigPort.table c.args.gpgv.now) (g.K.Keeper.kept c.args.keeper.now)) (g.R.FileRoom.files c.args.room.now) c.args.plan.now (g.K.Keeper.kept c.args.keeper.now) refl
+
+pub returns-in-Err-clause-stores : goal.returns-in-Err-clause-stores
+returns-in-Err-clause-stores g c = λ git gpgv keeper room.
+    no_stores (outside (g.G.GitPort.table c.args.git.now) (g.V.SigPort.table c.args.gpgv.now) (g.K.Keeper.kept c.args.keeper.now)) (g.R.FileRoom.files c.args.room.now) c.args.plan.now c.in-Err.status (g.K.Keeper.stores c.args.keeper.now) (g.K.Keeper.stores c.args.keeper.now) refl (told_no_zero c.in-Err.status c.in-Err.ensures.status)

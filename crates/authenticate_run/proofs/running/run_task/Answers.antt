@@ -1,4 +1,4 @@
-use Rattle.std.proofs.Common.{◌≡◌, ◌⊎◌, inl, inr, ◌∙◌, ℕ, Ok, Err, refl, sym, ap, subst}
+use Rattle.std.proofs.Common.{inl, inr, ◌∙◌, ℕ, Ok, Err, refl, sym, ap, subst}
 use Rattle.std.specs.Prelude.{IsTrue, IsOk, ◌↔◌}
 use Rattle.std.specs.FinMap as map
 use Rattle.child_ports.specs.Keeper.{Kept}
@@ -8,7 +8,7 @@ use Rattle.auth_engine.specs.declared.engine_fail.EngineFail.{EngineFail}
 use Rattle.auth_engine.specs.declared.engine_fail.EngineFail.TheVariants.{Memory}
 use Rattle.auth_engine.specs.Answers.{OnFinding}
 use Rattle.auth_engine.specs.Asked.{Asks}
-use Rattle.auth_engine.specs.Outcome.{IsOutcome, HasAuthenticTarget}
+use Rattle.auth_engine.specs.Outcome.{IsOutcome, IsVerdictOver, HasAuthenticTarget}
 use Rattle.auth_engine.specs.SoundCache.{IsSoundCache, IsSoundOrNone}
 use Rattle.auth_engine.proofs.AskedLemmas.{stop_asks}
 use Rattle.auth_engine.proofs.OutcomeLemmas.{accepted_authentic}
@@ -20,6 +20,7 @@ use Rattle.authenticate_run.specs.Outside.{task_for}
 use Rattle.run_answers.specs.Ended.{stored, sunk, IsFinished, Shows}
 use Rattle.run_answers.proofs.ShownLemmas.{no_words}
 use Rattle.authenticate_run.proofs.TaskRunLemmas.{refusal_is, refusal_shown, out_of_memory, finished, refused_complete, child_fault_of, store_fault_of, no_child_fault, accepted_complete, only_memory, memory_complete}
+use Rattle.authenticate_run.proofs.StoreLemmas.{ended_stored}
 use Rattle.authenticate_run.proofs.running.run_task.Goals as goal
 
 -- ---- no task could be made
@@ -45,6 +46,12 @@ returns-in_default-clause-asked g c = λ git gpgv keeper. (
   stop_asks (g.G.GitPort.table c.args.git.now) (g.V.SigPort.table c.args.gpgv.now) (task_for c.args.plan.now c.args.historical) _ _ _ Memory tt refl,
   c.tell_refusal.ensures.status,
 )
+
+pub returns-in_default-clause-stores : goal.returns-in_default-clause-stores
+returns-in_default-clause-stores g c = λ git gpgv keeper. inl (refl, (no_words Memory c.tell_refusal.result c.tell_refusal.ensures.status).1)
+
+pub returns-in_default-clause-puts : goal.returns-in_default-clause-puts
+returns-in_default-clause-puts g c = λ git gpgv keeper after. inl refl
 
 -- ---- the target wasn't accepted
 
@@ -100,6 +107,12 @@ returns-clause-asked g c = λ git gpgv keeper.
 
 pub returns-clause-keeps : goal.returns-clause-keeps
 returns-clause-keeps g c = λ git gpgv keeper after sound. inl c.in-Err.ensures.kept
+
+pub returns-clause-puts : goal.returns-clause-puts
+returns-clause-puts g c = λ git gpgv keeper after. inl c.in-Err.ensures.kept
+
+pub returns-clause-stores : goal.returns-clause-stores
+returns-clause-stores g c = λ git gpgv keeper. inl (c.in-Err.ensures.stores, (no_words c.in-Err.fail c.tell_refusal-in-Err.result c.tell_refusal-in-Err.ensures.status).1)
 
 -- ---- it was accepted
 
@@ -180,3 +193,27 @@ returns-in-Ok-authenticate-clause-asked g c = λ git gpgv keeper.
       subst (λ (task : Task). Asks rows sigs task (map.get kept task.cache_key) (Ok verdict) (g.V.SigPort.asked c.args.gpgv.now) (g.V.SigPort.asked c.authenticate.new.sig)) c.in-Ok.ensures.task (c.in-Ok-authenticate.ensures.asked git gpgv keeper),
       c.finish_task.ensures.status,
     )
+
+pub returns-in-Ok-authenticate-clause-puts : goal.returns-in-Ok-authenticate-clause-puts
+returns-in-Ok-authenticate-clause-puts g c = λ git gpgv keeper after.
+    let rows = g.G.GitPort.table c.args.git.now in
+    let sigs = g.V.SigPort.table c.args.gpgv.now in
+    let kept = g.K.Keeper.kept c.args.keeper.now in
+    let verdict = c.in-Ok-authenticate.verdict in
+    let over = subst (λ (task : Task). IsVerdictOver rows sigs task (map.get kept task.cache_key) verdict) c.in-Ok.ensures.task
+    (c.in-Ok-authenticate.ensures.verdict git gpgv keeper) in
+    let told = subst IsTrue (sym c.in-Ok-authenticate.ensures.keeper_told) keeper in
+    elim (c.finish_task.ensures.keeps told after) [
+      | inl same ↦ inl (same ∙ c.in-Ok-authenticate.ensures.kept)
+      | inr put ↦ inr (verdict, over, put ∙ ap (λ (k : Kept). with_store k verdict.store) c.in-Ok-authenticate.ensures.kept)
+    ]
+
+pub returns-in-Ok-authenticate-clause-stores : goal.returns-in-Ok-authenticate-clause-stores
+returns-in-Ok-authenticate-clause-stores g c = λ git gpgv keeper.
+    let rows = g.G.GitPort.table c.args.git.now in
+    let sigs = g.V.SigPort.table c.args.gpgv.now in
+    let kept = g.K.Keeper.kept c.args.keeper.now in
+    let verdict = c.in-Ok-authenticate.verdict in
+    let over = subst (λ (task : Task). IsVerdictOver rows sigs task (map.get kept task.cache_key) verdict) c.in-Ok.ensures.task
+    (c.in-Ok-authenticate.ensures.verdict git gpgv keeper) in
+    ended_stored (outside rows sigs kept) c.args.plan.now c.args.historical c.finish_task.result (g.K.Keeper.stores c.args.keeper.now) (g.K.Keeper.stores c.authenticate.new.keeper) (g.K.Keeper.stores c.finish_task.new.keeper) verdict over c.in-Ok-authenticate.ensures.stores c.finish_task.ensures.stores

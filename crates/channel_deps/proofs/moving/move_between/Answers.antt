@@ -1,4 +1,4 @@
-use Rattle.std.proofs.Common.{◌≡◌, ◌∙◌, [], Bool, sym, subst}
+use Rattle.std.proofs.Common.{◌∙◌, [], Bool, sym, subst}
 use Rattle.child_ports.specs.Causes.{RoseWhen}
 use Rattle.commit_graph.specs.declared.relation.Relation.{Relation}
 use Rattle.channel_deps.specs.declared.set.Move.{Move}

@@ -1,4 +1,4 @@
-use Rattle.std.proofs.Common.{◌≡◌, IsTrue, sym, subst}
+use Rattle.std.proofs.Common.{IsTrue, sym, subst}
 use Rattle.auth_engine.specs.Limits.{task_fits}
 use Rattle.auth_engine.specs.declared.task.Task.{Task}
 use Rattle.channel_deps.proofs.PlaceLemmas.{task_made, made_fits}

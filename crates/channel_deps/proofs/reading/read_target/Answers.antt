@@ -1,9 +1,7 @@
 use Rattle.std.proofs.Common.{◌≡◌, ◌∙◌, ℕ, List, Bool, Ok, Err, sym, subst}
-use Rattle.std.specs.Prelude.{Result}
 use Rattle.child_ports.specs.Causes.{RoseWhen}
 use Rattle.auth_rules.specs.World.{Id}
 use Rattle.auth_engine.specs.Answers as engine
-use Rattle.auth_engine.specs.declared.engine_fail.EngineFail.{EngineFail}
 use Rattle.channel_clone.specs.Resolving.{resolved}
 use Rattle.channel_deps.proofs.AnswerLemmas.{told_faults}
 use Rattle.channel_deps.proofs.KnownLemmas.{target_told, target_found}

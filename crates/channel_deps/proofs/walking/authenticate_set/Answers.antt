@@ -1,14 +1,16 @@
-use Rattle.std.proofs.Common.{◌≡◌, ◌∙◌, ◌≤◌, length, Ok, Err, refl, sym, subst, arith}
+use Rattle.std.proofs.Common.{◌∙◌, ◌≤◌, inl, inr, length, Ok, Err, refl, sym, subst, arith}
 use Rattle.std.specs.Prelude.{All, IsTrue}
 use Rattle.std.proofs.lemmas.Result.{err_from_is_err_and}
 use Rattle.channel_file.specs.Limits.{IsFit}
 use Rattle.channel_file.specs.declared.channel.Channel.{Channel}
 use Rattle.channel_deps.specs.declared.walking.Walk.{Walk}
 use Rattle.channel_deps.specs.Answers.{OnFinding}
+use Rattle.channel_deps.specs.Asked.{GoesNext}
 use Rattle.channel_deps.specs.Outcome.{HasSoundRecord}
 use Rattle.channel_deps.specs.Outside.{Outside, outside}
 use Rattle.channel_deps.specs.Steps.{IsAt, TakesNext}
-use Rattle.channel_deps.proofs.WalkLemmas.{none_walked, all_walked, next_comes, next_walked, next_refused, same_outside}
+use Rattle.channel_deps.proofs.AskedLemmas.{none_gone, gone_more, gone_stops, all_gone}
+use Rattle.channel_deps.proofs.WalkLemmas.{none_walked, next_comes, next_walked, next_refused, same_outside}
 use Rattle.channel_deps.proofs.walking.authenticate_set.Goals as goal
 
 pub loop-i-init : goal.loop-i-init
@@ -28,6 +30,7 @@ loop-i-init g c = record {
   fit = subst (λ (w : Walk). All IsFit w.list) (sym c.in-Ok.ensures) c.requires.fits.channels.each;
   walked = λ git sig keeper sound.
       none_walked (outside (g.G.GitPort.table c.args.git.now) (g.V.SigPort.table c.args.sig.now) (g.K.Keeper.kept c.args.keeper.now)) c.args.set.now c.in-Ok.walk c.in-Ok.ensures c.requires.fits.channels.count;
+  gone = λ git sig keeper. none_gone (outside (g.G.GitPort.table c.args.git.now) (g.V.SigPort.table c.args.sig.now) (g.K.Keeper.kept c.args.keeper.now)) c.args.set.now c.in-Ok.walk (g.V.SigPort.asked c.args.sig.now) c.in-Ok.ensures;
 }
 
 pub loop-i-preserved : goal.loop-i-preserved
@@ -54,6 +57,12 @@ loop-i-preserved g c =
           (same_outside _ _ _ _ _ _ inv.git_table inv.sig_table inv.kept)
           (c.in_ok-walk.ensures.next (subst IsTrue (sym inv.git_told) git) (subst IsTrue (sym inv.sig_told) sig) (subst IsTrue (sym inv.keeper_told) keeper)) in
           next_walked o c.args.set.now c.loop-i.i c.loop-i.walk c.in_ok-walk.walk walked (next (λ channel at. sound channel (next_comes o c.args.set.now c.loop-i.i c.loop-i.walk channel walked at)));
+      gone = λ git sig keeper.
+          let o = outside (g.G.GitPort.table c.args.git.now) (g.V.SigPort.table c.args.sig.now) (g.K.Keeper.kept c.args.keeper.now) in
+          let next = subst (λ (found : Outside). GoesNext found c.args.set.now c.loop-i.i c.loop-i.walk (Ok c.in_ok-walk.walk) (g.V.SigPort.asked c.loop-i.sig) (g.V.SigPort.asked c.take_next.new.sig))
+          (same_outside _ _ _ _ _ _ inv.git_table inv.sig_table inv.kept)
+          (c.in_ok-walk.ensures.goes (subst IsTrue (sym inv.git_told) git) (subst IsTrue (sym inv.sig_told) sig) (subst IsTrue (sym inv.keeper_told) keeper)) in
+          gone_more o c.args.set.now c.loop-i.i c.loop-i.walk c.in_ok-walk.walk (g.V.SigPort.asked c.args.sig.now) (g.V.SigPort.asked c.loop-i.sig) (g.V.SigPort.asked c.take_next.new.sig) (inv.gone git sig keeper) next;
     }
 
 pub returns-in_err-walk-clause-outcome : goal.returns-in_err-walk-clause-outcome
@@ -68,3 +77,24 @@ returns-in_err-walk-clause-outcome g c =
     (same_outside _ _ _ _ _ _ inv.git_table inv.sig_table inv.kept)
     (c.in_err-walk.ensures.next (subst IsTrue (sym inv.git_told) git) (subst IsTrue (sym inv.sig_told) sig) (subst IsTrue (sym inv.keeper_told) keeper)) in
     next_refused o c.args.set.now c.loop-i.i c.loop-i.walk fail walked (next (λ channel at. sound channel (next_comes o c.args.set.now c.loop-i.i c.loop-i.walk channel walked at))))
+
+pub returns-in_err-walk-clause-asked : goal.returns-in_err-walk-clause-asked
+returns-in_err-walk-clause-asked g c =
+    let p = err_from_is_err_and c.from_residual.result c.from_residual.ensures.1 in
+    let fail = c.in_err-walk.field-0.0 in
+    rw (p.1, p.2) (λ git sig keeper.
+    let inv = c.loop-i.invariant in
+    let o = outside (g.G.GitPort.table c.args.git.now) (g.V.SigPort.table c.args.sig.now) (g.K.Keeper.kept c.args.keeper.now) in
+    let next = subst (λ (found : Outside). GoesNext found c.args.set.now c.loop-i.i c.loop-i.walk (Err fail) (g.V.SigPort.asked c.loop-i.sig) (g.V.SigPort.asked c.take_next.new.sig))
+    (same_outside _ _ _ _ _ _ inv.git_table inv.sig_table inv.kept)
+    (c.in_err-walk.ensures.goes (subst IsTrue (sym inv.git_told) git) (subst IsTrue (sym inv.sig_told) sig) (subst IsTrue (sym inv.keeper_told) keeper)) in
+    inr (gone_stops o c.args.set.now c.loop-i.i c.loop-i.walk fail (g.V.SigPort.asked c.args.sig.now) (g.V.SigPort.asked c.loop-i.sig) (g.V.SigPort.asked c.take_next.new.sig) (inv.gone git sig keeper) next))
+
+pub returns-in_default-clause-asked : goal.returns-in_default-clause-asked
+returns-in_default-clause-asked g c = λ git sig keeper. inl refl
+
+pub returns-clause-asked : goal.returns-clause-asked
+returns-clause-asked g c = λ git sig keeper.
+    all_gone (outside (g.G.GitPort.table c.args.git.now) (g.V.SigPort.table c.args.sig.now) (g.K.Keeper.kept c.args.keeper.now)) c.args.set.now c.loop-i.i c.loop-i.walk
+    (record { members = c.loop-i.walk.members; store = c.loop-i.walk.store }) (g.V.SigPort.asked c.args.sig.now) (g.V.SigPort.asked c.loop-i.sig) (c.loop-i.invariant.gone git sig keeper)
+    (omega (arith, c.loop-i-test.false, c.len.ensures)) refl refl

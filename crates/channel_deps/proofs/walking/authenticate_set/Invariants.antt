@@ -3,6 +3,7 @@ use Rattle.std.specs.Prelude.{All, IsTrue}
 use Rattle.channel_file.specs.Limits.{IsFit}
 use Rattle.channel_deps.specs.Outcome.{AreSoundOrNone}
 use Rattle.channel_deps.specs.Outside.{outside}
+use Rattle.channel_deps.proofs.AskedLemmas.{HasGone}
 use Rattle.channel_deps.proofs.WalkLemmas.{HasWalked}
 use Rattle.channel_deps.proofs.walking.authenticate_set.Given as goal
 
@@ -27,4 +28,6 @@ invariant-loop-i g l = record {
   walked : IsTrue (g.G.GitPort.tells l.fn.git) → IsTrue (g.V.SigPort.tells l.fn.sig) → IsTrue (g.K.Keeper.tells l.fn.keeper) →
       let o = outside (g.G.GitPort.table l.fn.git) (g.V.SigPort.table l.fn.sig) (g.K.Keeper.kept l.fn.keeper) in
       AreSoundOrNone o l.set → HasWalked o l.set l.i l.walk;
+  gone : IsTrue (g.G.GitPort.tells l.fn.git) → IsTrue (g.V.SigPort.tells l.fn.sig) → IsTrue (g.K.Keeper.tells l.fn.keeper) →
+      HasGone (outside (g.G.GitPort.table l.fn.git) (g.V.SigPort.table l.fn.sig) (g.K.Keeper.kept l.fn.keeper)) l.set l.i l.walk (g.V.SigPort.asked l.fn.sig) (g.V.SigPort.asked l.sig);
 }

@@ -1,8 +1,8 @@
-use Rattle.std.proofs.Common.{◌≡◌, ◌⊎◌, ℕ, List, ap, refl, subst, ◌∙◌}
+use Rattle.std.proofs.Common.{◌≡◌, ◌⊎◌, inl, inr, ℕ, List, ap, refl, subst, ◌∙◌}
 use Rattle.child_ports.specs.Keeper.{Kept, with_pairs}
 use Rattle.run_answers.specs.declared.finishing.Ending.{Ending}
 use Rattle.run_answers.specs.Answers.{Answer}
-use Rattle.run_answers.specs.Ended.{IsFinished, Shows, stored, sunk}
+use Rattle.run_answers.specs.Ended.{IsFinished, Shows, StoresOnce, stored, sunk}
 use Rattle.run_answers.specs.Faults.{ends}
 use Rattle.run_answers.proofs.FinishLemmas.{no_room, other_fault}
 use Rattle.channels_run.specs.Answers.{set_ending}
@@ -30,3 +30,10 @@ returns-clause-fault g c = other_fault _ (Unit {0}) c.finish.result _ _ (λ warn
 pub returns-clause-keeps : goal.returns-clause-keeps
 returns-clause-keeps g c = λ keeper after.
     subst (λ (ending : Ending). (g.K.Keeper.kept c.finish.new.keeper ≡ g.K.Keeper.kept c.args.keeper.now) ⊎ (g.K.Keeper.kept c.finish.new.keeper ≡ with_pairs (g.K.Keeper.kept c.args.keeper.now) ending.store)) c.in-Ok.ensures (c.finish.ensures.keeps keeper after)
+
+pub returns-in_default-clause-stores : goal.returns-in_default-clause-stores
+returns-in_default-clause-stores g c = inr (refl, c.tell.ensures.status)
+
+pub returns-clause-stores : goal.returns-clause-stores
+returns-clause-stores g c =
+    inl (subst (λ (ending : Ending). StoresOnce ending.store (g.K.Keeper.stores c.args.keeper.now) (g.K.Keeper.stores c.finish.new.keeper)) c.in-Ok.ensures c.finish.ensures.stores)

@@ -13,6 +13,8 @@ use Rattle.channels_run.specs.declared.listing.ListFail.{ListFail}
 use Rattle.channels_run.specs.Answers.{set_for, IsSetDue, KeepsOrStoresAll}
 use Rattle.channels_run.specs.Listing.{list_at, trouble_line}
 use Rattle.channels_run.proofs.ListLemmas.{set_answers, at_set, from_set, of_all, no_list_shown}
+use Rattle.channels_run.proofs.PutLemmas.{set_puts, set_stores, set_asks, no_set_puts, no_set_stores, no_set_asks}
+use Rattle.run_answers.proofs.ShownLemmas.{told_no_zero}
 use Rattle.channels_run.proofs.SoundLemmas.{set_complete, list_complete, sound_behind}
 use Rattle.channels_run.proofs.running.run_channels.Goals as goal
 
@@ -99,3 +101,53 @@ returns-in-Err-clause-answer g c = λ git gpgv keeper room out err sound.
     (c.in-Err.ensures.shown room err) in
     no_list_shown o files c.args.plan.now c.in-Err.status same same (g.R.FileRoom.faults c.args.room.now) (g.R.FileRoom.faults c.listed_channels.new.room)
     (stored o.kept same.keeper) (sunk (g.O.Sink.taken c.args.out.now) (g.O.Sink.faults c.args.out.now)) err_before err_now refl told
+
+-- ---- what is put, how often the store is called, and the questions
+
+pub returns-in-Ok-clause-puts : goal.returns-in-Ok-clause-puts
+returns-in-Ok-clause-puts g c = λ git gpgv keeper after room.
+    let o = outside (g.G.GitPort.table c.args.git.now) (g.V.SigPort.table c.args.gpgv.now) (g.K.Keeper.kept c.args.keeper.now) in
+    let files = g.R.FileRoom.files c.args.room.now in
+    let plan = c.args.plan.now in
+    let channels = c.in-Ok.channels in
+    let is = subst (λ (path : List ℕ). list_at files path ≡ Ok channels) c.as_str.ensures (c.in-Ok.ensures.list room) in
+    set_puts o files plan channels is (g.K.Keeper.kept c.run_set.new.keeper) (c.run_set.ensures.puts git gpgv keeper after)
+
+pub returns-in-Ok-clause-stores : goal.returns-in-Ok-clause-stores
+returns-in-Ok-clause-stores g c = λ git gpgv keeper room.
+    let o = outside (g.G.GitPort.table c.args.git.now) (g.V.SigPort.table c.args.gpgv.now) (g.K.Keeper.kept c.args.keeper.now) in
+    let files = g.R.FileRoom.files c.args.room.now in
+    let plan = c.args.plan.now in
+    let channels = c.in-Ok.channels in
+    let is = subst (λ (path : List ℕ). list_at files path ≡ Ok channels) c.as_str.ensures (c.in-Ok.ensures.list room) in
+    set_stores o files plan channels is c.run_set.result (g.K.Keeper.stores c.args.keeper.now) (g.K.Keeper.stores c.run_set.new.keeper) (c.run_set.ensures.stores git gpgv keeper)
+
+pub returns-in-Ok-clause-asked : goal.returns-in-Ok-clause-asked
+returns-in-Ok-clause-asked g c = λ git gpgv keeper room.
+    let o = outside (g.G.GitPort.table c.args.git.now) (g.V.SigPort.table c.args.gpgv.now) (g.K.Keeper.kept c.args.keeper.now) in
+    let files = g.R.FileRoom.files c.args.room.now in
+    let plan = c.args.plan.now in
+    let channels = c.in-Ok.channels in
+    let is = subst (λ (path : List ℕ). list_at files path ≡ Ok channels) c.as_str.ensures (c.in-Ok.ensures.list room) in
+    set_asks o files plan channels is c.run_set.result (g.V.SigPort.asked c.args.gpgv.now) (g.V.SigPort.asked c.run_set.new.gpgv) (c.run_set.ensures.asked git gpgv keeper)
+
+pub returns-in-Err-clause-puts : goal.returns-in-Err-clause-puts
+returns-in-Err-clause-puts g c = λ git gpgv keeper after room.
+    let o = outside (g.G.GitPort.table c.args.git.now) (g.V.SigPort.table c.args.gpgv.now) (g.K.Keeper.kept c.args.keeper.now) in
+    let files = g.R.FileRoom.files c.args.room.now in
+    no_set_puts o files c.args.plan.now o.kept refl
+
+pub returns-in-Err-clause-stores : goal.returns-in-Err-clause-stores
+returns-in-Err-clause-stores g c = λ git gpgv keeper room.
+    let o = outside (g.G.GitPort.table c.args.git.now) (g.V.SigPort.table c.args.gpgv.now) (g.K.Keeper.kept c.args.keeper.now) in
+    let files = g.R.FileRoom.files c.args.room.now in
+    let count = g.K.Keeper.stores c.args.keeper.now in
+    no_set_stores o files c.args.plan.now c.in-Err.status count count refl (told_no_zero c.in-Err.status c.in-Err.ensures.status)
+
+pub returns-in-Err-clause-asked : goal.returns-in-Err-clause-asked
+returns-in-Err-clause-asked g c = λ git gpgv keeper room.
+    let o = outside (g.G.GitPort.table c.args.git.now) (g.V.SigPort.table c.args.gpgv.now) (g.K.Keeper.kept c.args.keeper.now) in
+    let files = g.R.FileRoom.files c.args.room.now in
+    let status = c.in-Err.status in
+    let count = g.V.SigPort.asked c.args.gpgv.now in
+    no_set_asks o files c.args.plan.now status count count refl (subst (λ (path : List ℕ). IsOk (list_at files path) → (status ≡ 5) ⊎ (status ≡ 6)) c.as_str.ensures (c.in-Err.ensures.given room))

@@ -5,6 +5,8 @@ use Rattle.channel_deps.specs.declared.set.SetTask.{SetTask}
 use Rattle.channel_deps.specs.declared.set.SetVerdict.{SetVerdict}
 use Rattle.channel_deps.specs.declared.set_fail.SetFail.TheVariants.{Memory}
 use Rattle.channel_deps.specs.Answers.{OnFinding}
+use Rattle.channel_deps.specs.Asked.{AsksSet}
+use Rattle.channel_deps.specs.Over.{IsSetVerdictOver}
 use Rattle.channel_deps.specs.Outcome.{IsSetOutcome, AreSoundOrNone}
 use Rattle.channel_deps.proofs.LawLemmas.{caches_sound}
 use Rattle.channel_deps.specs.Outside.{outside}
@@ -12,6 +14,7 @@ use Rattle.run_answers.specs.Answers.{Answer}
 use Rattle.run_answers.specs.Ended.{stored, sunk, IsFinished, Shows}
 use Rattle.run_answers.specs.Faults.{counts, ends, IsEndFault}
 use Rattle.channels_run.specs.Answers.{set_for, set_ending}
+use Rattle.channels_run.proofs.PutLemmas.{ended_stored}
 use Rattle.channels_run.proofs.SetRunLemmas.{refusal_is, refusal_shown, out_of_memory, finished, told_status, child_fault_of, end_fault_of, no_child_fault, only_memory}
 use Rattle.channels_run.proofs.SoundLemmas.{refused_complete, accepted_complete, memory_complete}
 use Rattle.channels_run.proofs.running.run_set.Goals as goal
@@ -131,3 +134,60 @@ returns-in-Ok-authenticate_set-clause-keeps g c = λ git gpgv keeper after sound
       | inl same ↦ inl (same ∙ c.in-Ok-authenticate_set.ensures.kept)
       | inr put ↦ inr (verdict, outcome, put ∙ ap (λ (k : Kept). with_pairs k verdict.store) c.in-Ok-authenticate_set.ensures.kept)
     ]
+
+-- ---- what is put, how often the store is called, and the questions
+
+pub returns-in_default-clause-puts : goal.returns-in_default-clause-puts
+returns-in_default-clause-puts g c = λ git gpgv keeper after. inl refl
+
+pub returns-in_default-clause-stores : goal.returns-in_default-clause-stores
+returns-in_default-clause-stores g c = λ git gpgv keeper. inl (refl, (told_status Memory c.tell_set_refusal.result tt c.tell_set_refusal.ensures.status).0)
+
+pub returns-in_default-clause-asked : goal.returns-in_default-clause-asked
+returns-in_default-clause-asked g c = λ git gpgv keeper. (Err Memory, λ sound. tt, inl refl, c.tell_set_refusal.ensures.status)
+
+pub returns-clause-puts : goal.returns-clause-puts
+returns-clause-puts g c = λ git gpgv keeper after. inl c.in-Err.ensures.kept
+
+pub returns-clause-stores : goal.returns-clause-stores
+returns-clause-stores g c = λ git gpgv keeper.
+    inl (c.in-Err.ensures.stores, (told_status c.in-Err.fail c.tell_set_refusal-in-Err.result c.in-Err.ensures.plain c.tell_set_refusal-in-Err.ensures.status).0)
+
+pub returns-clause-asked : goal.returns-clause-asked
+returns-clause-asked g c = λ git gpgv keeper.
+    let o = outside (g.G.GitPort.table c.args.git.now) (g.V.SigPort.table c.args.gpgv.now) (g.K.Keeper.kept c.args.keeper.now) in
+    let fail = c.in-Err.fail in (
+      Err fail,
+      subst (λ (s : SetTask). AreSoundOrNone o s → OnFinding {T = SetVerdict} (Err fail) (IsSetOutcome o s (Err fail))) c.in-Ok.ensures (c.in-Err.ensures.outcome git gpgv keeper),
+      subst (λ (s : SetTask). AsksSet o s (Err fail) (g.V.SigPort.asked c.args.gpgv.now) (g.V.SigPort.asked c.authenticate_set.new.sig)) c.in-Ok.ensures (c.in-Err.ensures.asked git gpgv keeper),
+      c.tell_set_refusal-in-Err.ensures.status,
+    )
+
+pub returns-in-Ok-authenticate_set-clause-puts : goal.returns-in-Ok-authenticate_set-clause-puts
+returns-in-Ok-authenticate_set-clause-puts g c = λ git gpgv keeper after.
+    let o = outside (g.G.GitPort.table c.args.git.now) (g.V.SigPort.table c.args.gpgv.now) (g.K.Keeper.kept c.args.keeper.now) in
+    let verdict = c.in-Ok-authenticate_set.verdict in
+    let over = subst (λ (s : SetTask). IsSetVerdictOver o s verdict) c.in-Ok.ensures (c.in-Ok-authenticate_set.ensures.verdict git gpgv keeper) in
+    let told = subst IsTrue (sym c.in-Ok-authenticate_set.ensures.keeper_told) keeper in
+    elim (c.finish_set.ensures.keeps told after) [
+      | inl same ↦ inl (same ∙ c.in-Ok-authenticate_set.ensures.kept)
+      | inr put ↦ inr (verdict, over, put ∙ ap (λ (k : Kept). with_pairs k verdict.store) c.in-Ok-authenticate_set.ensures.kept)
+    ]
+
+pub returns-in-Ok-authenticate_set-clause-stores : goal.returns-in-Ok-authenticate_set-clause-stores
+returns-in-Ok-authenticate_set-clause-stores g c = λ git gpgv keeper.
+    let o = outside (g.G.GitPort.table c.args.git.now) (g.V.SigPort.table c.args.gpgv.now) (g.K.Keeper.kept c.args.keeper.now) in
+    let verdict = c.in-Ok-authenticate_set.verdict in
+    let over = subst (λ (s : SetTask). IsSetVerdictOver o s verdict) c.in-Ok.ensures (c.in-Ok-authenticate_set.ensures.verdict git gpgv keeper) in
+    ended_stored o (set_for c.args.plan.now c.args.channels) c.finish_set.result (g.K.Keeper.stores c.args.keeper.now) (g.K.Keeper.stores c.authenticate_set.new.keeper) (g.K.Keeper.stores c.finish_set.new.keeper) verdict over
+    c.in-Ok-authenticate_set.ensures.stores c.finish_set.ensures.stores
+
+pub returns-in-Ok-authenticate_set-clause-asked : goal.returns-in-Ok-authenticate_set-clause-asked
+returns-in-Ok-authenticate_set-clause-asked g c = λ git gpgv keeper.
+    let o = outside (g.G.GitPort.table c.args.git.now) (g.V.SigPort.table c.args.gpgv.now) (g.K.Keeper.kept c.args.keeper.now) in
+    let verdict = c.in-Ok-authenticate_set.verdict in (
+      Ok verdict,
+      subst (λ (s : SetTask). AreSoundOrNone o s → IsSetOutcome o s (Ok verdict)) c.in-Ok.ensures (c.in-Ok-authenticate_set.ensures.outcome git gpgv keeper),
+      subst (λ (s : SetTask). AsksSet o s (Ok verdict) (g.V.SigPort.asked c.args.gpgv.now) (g.V.SigPort.asked c.authenticate_set.new.sig)) c.in-Ok.ensures (c.in-Ok-authenticate_set.ensures.asked git gpgv keeper),
+      c.finish_set.ensures.status,
+    )

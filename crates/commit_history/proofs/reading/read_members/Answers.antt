@@ -12,6 +12,7 @@ pub loop-i-init : goal.loop-i-init
 loop-i-init g c = record {
   told = refl;
   table = refl;
+  named = refl;
   faults = refl;
   both = both_start c.args.target c.args.intro c.in_ok-walk.walk.met c.in_ok-walk.ensures.ok.1;
   follows = follows_start c.in_ok-walk.walk.graph.held c.in_ok-walk.walk.met c.next_absent-i.result c.in_ok-walk.ensures.ok.0
@@ -41,6 +42,7 @@ loop-i-preserved g c =
     record {
       told = c.in_ok-parents.ensures.told ∙ c.loop-i.invariant.told;
       table = c.in_ok-parents.ensures.table ∙ c.loop-i.invariant.table;
+      named = c.in_ok-parents.ensures.named ∙ c.loop-i.invariant.named;
       faults = c.in_ok-parents.ensures.cause ∙ c.loop-i.invariant.faults;
       both = both_next c.args.target c.args.intro c.loop-i.walk.met c.in_ok-parents.parents c.take.new.walk.met c.in_ok-take.ensures.met c.loop-i.invariant.both;
       follows = follows_next c.loop-i.walk.graph.held c.loop-i.walk.met c.in_ok-parents.parents c.index-as_slice-i.result

@@ -9,6 +9,7 @@ abbrev pub invariant-loop-i : goal.invariant-loop-i
 invariant-loop-i g l = record {
   told : g.G.GitPort.tells l.git ≡ g.G.GitPort.tells l.fn.git;
   table : g.G.GitPort.table l.git ≡ g.G.GitPort.table l.fn.git;
+  named : g.G.GitPort.named l.git ≡ g.G.GitPort.named l.fn.git;
   faults : g.G.GitPort.faults l.git ≡ g.G.GitPort.faults l.fn.git;
   both : Contains l.walk.met l.fn.target × Contains l.walk.met l.fn.intro;
   follows : Follows l.walk.graph.held l.walk.met l.i;

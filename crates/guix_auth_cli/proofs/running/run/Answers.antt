@@ -1,8 +1,6 @@
-use Rattle.std.proofs.Common.{◌≡◌, ◌⊎◌, inl, ◌∙◌, ap, [], Some, None, Ok, refl, sym, subst, codes}
-use Rattle.std.specs.Prelude.{Option, Result}
-use Rattle.std.specs.declared.alloc.AllocError.{AllocError}
+use Rattle.std.proofs.Common.{◌≡◌, ◌⊎◌, inl, ◌∙◌, ap, arith, [], Some, None, Ok, refl, sym, subst, codes}
+use Rattle.std.specs.Prelude.{Option}
 use Rattle.child_ports.specs.Causes.{Rose}
-use Rattle.child_ports.specs.Keeper.{Kept}
 use Rattle.child_ports.specs.KeySet.{Keys}
 use Rattle.auth_words.specs.declared.plan.Plan.{Plan}
 use Rattle.auth_words.specs.declared.plan.ChannelsPlan.{ChannelsPlan}
@@ -10,18 +8,17 @@ use Rattle.auth_words.specs.declared.plan.Command.{Command}
 use Rattle.auth_words.specs.declared.plan.Command.TheVariants.{Help, Authenticate, Channels}
 use Rattle.auth_words.specs.Words.{command_of}
 use Rattle.auth_report.specs.Parts.{line_of}
-use Rattle.guix_auth_cli.specs.declared.help.TheConstants.{HELP}
-use Rattle.run_answers.specs.Faults.{counts}
+use Rattle.guix_auth_cli.specs.Help.{help_text}
 use Rattle.channel_deps.specs.Outside.{outside}
 use Rattle.authenticate_run.specs.Outside.{historical_of, OfKeys, HasSoundCache, HasSoundOrNone}
-use Rattle.run_answers.specs.Ended.{stored, sunk}
+use Rattle.run_answers.specs.Ended.{sunk}
 use Rattle.authenticate_run.specs.Run.{KeepsOrStores, IsAuthenticFor}
 use Rattle.channel_deps.specs.declared.set.SetTask.{SetTask}
 use Rattle.channel_deps.specs.Outcome.{AreSoundOrNone, HasSoundCaches}
-use Rattle.channels_run.specs.Answers.{IsAcceptedSet, KeepsOrStoresAll, OfSet}
-use Rattle.guix_auth_cli.specs.Answers.{IsSoundOrNoneFor}
+use Rattle.channels_run.specs.Answers.{IsAcceptedSet, KeepsOrStoresAll, OfSet, SetAsksFor}
+use Rattle.guix_auth_cli.specs.Answers.{IsSoundOrNoneFor, PutsBy, StoresBy}
 use Rattle.run_answers.proofs.ShownLemmas.{untouched, no_output, own_output, lost_also}
-use Rattle.guix_auth_cli.proofs.RunLemmas.{read_is, one_plan, one_list, fault_of_words, ran, at_once, wants_memory, if_map, sound_behind}
+use Rattle.guix_auth_cli.proofs.RunLemmas.{read_is, one_plan, one_list, fault_of_words, ran, at_once, wants_memory, puts_none, stores_none, if_map, sound_behind}
 use Rattle.guix_auth_cli.proofs.running.run.Goals as goal
 
 pub returns-in-Ok-Some-Authenticate-clause-answer : goal.returns-in-Ok-Some-Authenticate-clause-answer
@@ -153,9 +150,9 @@ returns-in-Ok-Some-Help-clause-answer g c = λ git gpgv keeper room out err soun
     let err_same = sunk (g.E.Sink.taken c.args.err.now) (g.E.Sink.faults c.args.err.now) in
     let stated = read_is c.read_words.result (Some Help) (command_of c.args.words.now) c.read_words.ensures.exact
     (c.in-Ok-Some-Help.is ∙ ap (λ (x : Option Command). Ok x) (c.in-Ok-Some-Help.field-0-is ∙ ap (λ (x : Command). Some x) c.in-Ok-Some-Help.field-0-0-is)) in
-    at_once o (g.R.FileRoom.files c.args.room.now) c.args.words.now _ _ _ _ _ _ _ _ _ _ (Some Help) (record { status = 0; out = HELP.now; err = []; kept = o.kept }) stated refl
+    at_once o (g.R.FileRoom.files c.args.room.now) c.args.words.now _ _ _ _ _ _ _ _ _ _ (Some Help) (record { status = 0; out = help_text; err = []; kept = o.kept }) stated refl
     (lost_also (Rose out_before.failed out_now.failed) (Rose out_before.failed out_now.failed ⊎ Rose err_same.failed err_same.failed) 0 c.print.result (λ rose. inl rose) c.print.ensures.answer)
-    (own_output HELP.now out_before out_now err_same err_same refl (c.print.ensures.put out)) (untouched _ _) refl
+    (own_output help_text out_before out_now err_same err_same refl (c.print.ensures.put out)) (untouched _ _) refl
 
 pub returns-in-Ok-None-clause-answer : goal.returns-in-Ok-None-clause-answer
 returns-in-Ok-None-clause-answer g c = λ git gpgv keeper room out err sound.
@@ -172,3 +169,84 @@ pub returns-in-Err-clause-answer : goal.returns-in-Err-clause-answer
 returns-in-Err-clause-answer g c = λ git gpgv keeper room out err sound.
     let o = outside (g.G.GitPort.table c.args.git.now) (g.V.SigPort.table c.args.gpgv.now) (g.K.Keeper.kept c.args.keeper.now) in
     wants_memory o (g.R.FileRoom.files c.args.room.now) c.args.words.now _ _ _ _ _ _ _ _ _ c.tell-in-Err.ensures.status refl (c.tell-in-Err.ensures.put err)
+
+-- ---- what is put, how often the store is called, and the questions
+
+pub returns-in-Ok-Some-Authenticate-clause-puts : goal.returns-in-Ok-Some-Authenticate-clause-puts
+returns-in-Ok-Some-Authenticate-clause-puts g c = λ git gpgv keeper after room.
+    let o = outside (g.G.GitPort.table c.args.git.now) (g.V.SigPort.table c.args.gpgv.now) (g.K.Keeper.kept c.args.keeper.now) in
+    let files = g.R.FileRoom.files c.args.room.now in
+    let plan = c.in-Ok-Some-Authenticate.plan in
+    let stated = read_is c.read_words.result (Some (Authenticate plan)) (command_of c.args.words.now) c.read_words.ensures.exact
+    (c.in-Ok-Some-Authenticate.is ∙ ap (λ (x : Option Command). Ok x) (c.in-Ok-Some-Authenticate.field-0-is ∙ ap (λ (x : Command). Some x) c.in-Ok-Some-Authenticate.field-0-0-is)) in
+    subst (λ (command : Option Command). PutsBy o files command (g.K.Keeper.kept c.run_authenticate.new.keeper)) (sym stated) (c.run_authenticate.ensures.puts git gpgv keeper after room)
+
+pub returns-in-Ok-Some-Authenticate-clause-stores : goal.returns-in-Ok-Some-Authenticate-clause-stores
+returns-in-Ok-Some-Authenticate-clause-stores g c = λ git gpgv keeper room.
+    let o = outside (g.G.GitPort.table c.args.git.now) (g.V.SigPort.table c.args.gpgv.now) (g.K.Keeper.kept c.args.keeper.now) in
+    let files = g.R.FileRoom.files c.args.room.now in
+    let plan = c.in-Ok-Some-Authenticate.plan in
+    let stated = read_is c.read_words.result (Some (Authenticate plan)) (command_of c.args.words.now) c.read_words.ensures.exact
+    (c.in-Ok-Some-Authenticate.is ∙ ap (λ (x : Option Command). Ok x) (c.in-Ok-Some-Authenticate.field-0-is ∙ ap (λ (x : Command). Some x) c.in-Ok-Some-Authenticate.field-0-0-is)) in
+    subst (λ (command : Option Command). StoresBy o files command c.run_authenticate.result (g.K.Keeper.stores c.args.keeper.now) (g.K.Keeper.stores c.run_authenticate.new.keeper)) (sym stated)
+    (c.run_authenticate.ensures.stores git gpgv keeper room)
+
+pub returns-in-Ok-Some-Channels-clause-puts : goal.returns-in-Ok-Some-Channels-clause-puts
+returns-in-Ok-Some-Channels-clause-puts g c = λ git gpgv keeper after room.
+    let o = outside (g.G.GitPort.table c.args.git.now) (g.V.SigPort.table c.args.gpgv.now) (g.K.Keeper.kept c.args.keeper.now) in
+    let files = g.R.FileRoom.files c.args.room.now in
+    let plan = c.in-Ok-Some-Channels.plan in
+    let stated = read_is c.read_words.result (Some (Channels plan)) (command_of c.args.words.now) c.read_words.ensures.exact
+    (c.in-Ok-Some-Channels.is ∙ ap (λ (x : Option Command). Ok x) (c.in-Ok-Some-Channels.field-0-is ∙ ap (λ (x : Command). Some x) c.in-Ok-Some-Channels.field-0-0-is)) in
+    subst (λ (command : Option Command). PutsBy o files command (g.K.Keeper.kept c.run_channels.new.keeper)) (sym stated) (c.run_channels.ensures.puts git gpgv keeper after room)
+
+pub returns-in-Ok-Some-Channels-clause-stores : goal.returns-in-Ok-Some-Channels-clause-stores
+returns-in-Ok-Some-Channels-clause-stores g c = λ git gpgv keeper room.
+    let o = outside (g.G.GitPort.table c.args.git.now) (g.V.SigPort.table c.args.gpgv.now) (g.K.Keeper.kept c.args.keeper.now) in
+    let files = g.R.FileRoom.files c.args.room.now in
+    let plan = c.in-Ok-Some-Channels.plan in
+    let stated = read_is c.read_words.result (Some (Channels plan)) (command_of c.args.words.now) c.read_words.ensures.exact
+    (c.in-Ok-Some-Channels.is ∙ ap (λ (x : Option Command). Ok x) (c.in-Ok-Some-Channels.field-0-is ∙ ap (λ (x : Command). Some x) c.in-Ok-Some-Channels.field-0-0-is)) in
+    subst (λ (command : Option Command). StoresBy o files command c.run_channels.result (g.K.Keeper.stores c.args.keeper.now) (g.K.Keeper.stores c.run_channels.new.keeper)) (sym stated)
+    (c.run_channels.ensures.stores git gpgv keeper room)
+
+pub returns-in-Ok-Some-Channels-clause-set_asked : goal.returns-in-Ok-Some-Channels-clause-set_asked
+returns-in-Ok-Some-Channels-clause-set_asked g c = λ other is git gpgv keeper room.
+    let o = outside (g.G.GitPort.table c.args.git.now) (g.V.SigPort.table c.args.gpgv.now) (g.K.Keeper.kept c.args.keeper.now) in
+    let files = g.R.FileRoom.files c.args.room.now in
+    let plan = c.in-Ok-Some-Channels.plan in
+    let stated = read_is c.read_words.result (Some (Channels plan)) (command_of c.args.words.now) c.read_words.ensures.exact
+    (c.in-Ok-Some-Channels.is ∙ ap (λ (x : Option Command). Ok x) (c.in-Ok-Some-Channels.field-0-is ∙ ap (λ (x : Command). Some x) c.in-Ok-Some-Channels.field-0-0-is)) in
+    subst (λ (p : ChannelsPlan). SetAsksFor o files p c.run_channels.result (g.V.SigPort.asked c.args.gpgv.now) (g.V.SigPort.asked c.run_channels.new.gpgv)) (one_list c.args.words.now plan other stated is)
+    (c.run_channels.ensures.asked git gpgv keeper room)
+
+pub returns-in-Ok-Some-Help-clause-puts : goal.returns-in-Ok-Some-Help-clause-puts
+returns-in-Ok-Some-Help-clause-puts g c = λ git gpgv keeper after room.
+    puts_none (outside (g.G.GitPort.table c.args.git.now) (g.V.SigPort.table c.args.gpgv.now) (g.K.Keeper.kept c.args.keeper.now)) (g.R.FileRoom.files c.args.room.now) (command_of c.args.words.now) (g.K.Keeper.kept c.args.keeper.now) refl
+
+pub returns-in-Ok-Some-Help-clause-stores : goal.returns-in-Ok-Some-Help-clause-stores
+returns-in-Ok-Some-Help-clause-stores g c = λ git gpgv keeper room.
+    let o = outside (g.G.GitPort.table c.args.git.now) (g.V.SigPort.table c.args.gpgv.now) (g.K.Keeper.kept c.args.keeper.now) in
+    let files = g.R.FileRoom.files c.args.room.now in
+    let stated = read_is c.read_words.result (Some Help) (command_of c.args.words.now) c.read_words.ensures.exact
+    (c.in-Ok-Some-Help.is ∙ ap (λ (x : Option Command). Ok x) (c.in-Ok-Some-Help.field-0-is ∙ ap (λ (x : Command). Some x) c.in-Ok-Some-Help.field-0-0-is)) in
+    let count = g.K.Keeper.stores c.args.keeper.now in
+    subst (λ (command : Option Command). StoresBy o files command c.print.result count count) (sym stated) refl
+
+pub returns-in-Ok-None-clause-puts : goal.returns-in-Ok-None-clause-puts
+returns-in-Ok-None-clause-puts g c = λ git gpgv keeper after room.
+    puts_none (outside (g.G.GitPort.table c.args.git.now) (g.V.SigPort.table c.args.gpgv.now) (g.K.Keeper.kept c.args.keeper.now)) (g.R.FileRoom.files c.args.room.now) (command_of c.args.words.now) (g.K.Keeper.kept c.args.keeper.now) refl
+
+pub returns-in-Ok-None-clause-stores : goal.returns-in-Ok-None-clause-stores
+returns-in-Ok-None-clause-stores g c = λ git gpgv keeper room.
+    let count = g.K.Keeper.stores c.args.keeper.now in
+    stores_none (outside (g.G.GitPort.table c.args.git.now) (g.V.SigPort.table c.args.gpgv.now) (g.K.Keeper.kept c.args.keeper.now)) (g.R.FileRoom.files c.args.room.now) (command_of c.args.words.now) c.tell.result count count refl (λ zero. absurd (omega (arith, zero, c.tell.ensures.status)))
+
+pub returns-in-Err-clause-puts : goal.returns-in-Err-clause-puts
+returns-in-Err-clause-puts g c = λ git gpgv keeper after room.
+    puts_none (outside (g.G.GitPort.table c.args.git.now) (g.V.SigPort.table c.args.gpgv.now) (g.K.Keeper.kept c.args.keeper.now)) (g.R.FileRoom.files c.args.room.now) (command_of c.args.words.now) (g.K.Keeper.kept c.args.keeper.now) refl
+
+pub returns-in-Err-clause-stores : goal.returns-in-Err-clause-stores
+returns-in-Err-clause-stores g c = λ git gpgv keeper room.
+    let count = g.K.Keeper.stores c.args.keeper.now in
+    stores_none (outside (g.G.GitPort.table c.args.git.now) (g.V.SigPort.table c.args.gpgv.now) (g.K.Keeper.kept c.args.keeper.now)) (g.R.FileRoom.files c.args.room.now) (command_of c.args.words.now) c.tell-in-Err.result count count refl (λ zero. absurd (omega (arith, zero, c.tell-in-Err.ensures.status)))

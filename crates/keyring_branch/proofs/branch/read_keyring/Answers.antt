@@ -4,6 +4,7 @@ use Rattle.std.proofs.lemmas.Result.{err_from_is_err_and}
 use Rattle.keyring_branch.specs.declared.keyring_fail.KeyringFail.{KeyringFail}
 use Rattle.keyring_branch.proofs.BranchLemmas.{keyring_written, found_of}
 use Rattle.keyring_branch.proofs.FaultLemmas.{no_call_failed}
+use Rattle.keyring_branch.proofs.GenuineLemmas.{of_its_tree}
 use Rattle.keyring_branch.proofs.branch.read_keyring.Goals as goal
 
 pub returns-in_err-files-clause-cause : goal.returns-in_err-files-clause-cause
@@ -26,3 +27,8 @@ returns-clause-found g c =
     c.in_ok-root.root c.as_slice-2.result.now c.in_ok-files.files c.as_slice-3.result.now c.new.result c.new-2.result c.with_files.result
     c.in_ok-root.ensures.table c.in_ok-root.ensures.told c.as_slice.ensures c.as_slice-2.ensures c.as_slice-3.ensures c.new.ensures c.new-2.ensures
     c.in_ok-root.ensures.exact c.in_ok-files.ensures.files c.with_files.ensures.exact
+
+pub returns-clause-genuine : goal.returns-clause-genuine
+returns-clause-genuine g c =
+    of_its_tree c.in_ok-root.root c.as_slice-2.result.now c.in_ok-files.files c.as_slice-3.result.now c.new.result c.new-2.result c.with_files.result
+    c.in_ok-root.ensures.genuine c.as_slice-2.ensures c.in_ok-files.ensures.files c.as_slice-3.ensures c.new.ensures c.new-2.ensures c.with_files.ensures.genuine

@@ -3,7 +3,7 @@ use Rattle.std.specs.Prelude.{IsTrue}
 use Rattle.child_ports.specs.Git.{answer}
 use Rattle.object_frames.specs.declared.head.Head.TheVariants as head
 use Rattle.object_frames.specs.Fetched.{by_body}
-use Rattle.object_frames.proofs.OutcomeLemmas.{fetched_by, by_other, by_large, by_rest, gives_it, object_cause, on_ok, found_of, fault_of, frame_end, outcome_is}
+use Rattle.object_frames.proofs.OutcomeLemmas.{fetched_by, by_other, by_large, by_rest, gives_it, object_cause, on_ok, found_of, fault_of, frame_end, outcome_is, genuine_of}
 use Rattle.object_frames.proofs.fetching.fetch.Goals as goal
 
 pub returns-in-Missing-clause-exact : goal.returns-in-Missing-clause-exact
@@ -176,6 +176,11 @@ returns-in-Whole-clause-fault g c =
     let told = c.read_head.ensures.told ∙ tells in
     let at_body = by_rest limit name header rest (sym c.is_other_id.ensures ∙ c.if-is_other_id.false) (omega arith) ∙ ap (by_body header) (sym (c.in_ok-content.ensures.body told) ∙ c.in-Whole.is) in
     outcome_is limit name whole (c.in_ok-read_head.ensures.framed tells) (head.Object header) rest said c.object_of.result (at_body ∙ sym c.object_of.ensures))
+
+pub returns-in-Whole-clause-genuine : goal.returns-in-Whole-clause-genuine
+returns-in-Whole-clause-genuine g c =
+    let size = rw c.in-Whole.is at c.in_ok-content.ensures.within in
+    genuine_of c.args.limit c.args.name.now c.in-Object.header c.in-Whole.content (sym c.is_other_id.ensures ∙ c.if-is_other_id.false) (omega (arith, size)) c.object_of.result c.object_of.ensures
 
 pub returns-in-Whole-clause-cause : goal.returns-in-Whole-clause-cause
 returns-in-Whole-clause-cause g c =

@@ -1,5 +1,6 @@
 use Rattle.std.proofs.Common.{take, sym, ◌∙◌, arith}
 use Rattle.child_ports.specs.Git.{answer}
+use Rattle.child_ports.proofs.NamedLemmas.{named_once, id_unnamed}
 use Rattle.object_frames.proofs.HeadLemmas.{starts, small_head}
 use Rattle.object_frames.proofs.head.read_head.Goals as goal
 
@@ -17,3 +18,21 @@ returns-clause-head g c = λ tells.
 
 pub returns-clause-small : goal.returns-clause-small
 returns-clause-small g c = small_head c.args.name.now (take c.in_ok-n.n c.read_line.new.line) c.head_of.result c.head_of.ensures
+
+pub returns-in_err-ask-clause-named : goal.returns-in_err-ask-clause-named
+returns-in_err-ask-clause-named g c = named_once c.args.name.now _ _ c.ask.ensures.named
+
+pub returns-in_err-n-clause-named : goal.returns-in_err-n-clause-named
+returns-in_err-n-clause-named g c = named_once c.args.name.now _ _ (c.read_line.ensures.named ∙ c.ask.ensures.named)
+
+pub returns-clause-named : goal.returns-clause-named
+returns-clause-named g c = named_once c.args.name.now _ _ (c.read_line.ensures.named ∙ c.ask.ensures.named)
+
+pub returns-in_err-ask-clause-by_id : goal.returns-in_err-ask-clause-by_id
+returns-in_err-ask-clause-by_id g c = λ full. id_unnamed c.args.name.now _ _ full c.ask.ensures.named
+
+pub returns-in_err-n-clause-by_id : goal.returns-in_err-n-clause-by_id
+returns-in_err-n-clause-by_id g c = λ full. id_unnamed c.args.name.now _ _ full (c.read_line.ensures.named ∙ c.ask.ensures.named)
+
+pub returns-clause-by_id : goal.returns-clause-by_id
+returns-clause-by_id g c = λ full. id_unnamed c.args.name.now _ _ full (c.read_line.ensures.named ∙ c.ask.ensures.named)

@@ -10,6 +10,7 @@ loop-at-preserved g c =
     record {
       told = c.read.ensures.told ∙ c.loop-at.invariant.told;
       table = c.read.ensures.table ∙ c.loop-at.invariant.table;
+      named = c.read.ensures.named ∙ c.loop-at.invariant.named;
       faults = c.in_ok-n.ensures.cause ∙ c.loop-at.invariant.faults;
       within = omega (arith, length_put at c.loop-at.buf c.read.new.buf within c.read.auto.buf, length_mid at c.loop-at.buf within, room);
       read = λ tells. filled _ (g.G.GitPort.pending c.loop-at.git) (g.G.GitPort.pending c.read.new.self) c.loop-at.buf c.read.new.buf at (length c.loop-at.buf - at) c.in_ok-n.n
