@@ -33,7 +33,7 @@ use Rattle.auth_engine.specs.declared.engine_fail.EngineFail.TheVariants.{Name, 
 use Rattle.auth_engine.specs.Answers.{OnFinding, Gives}
 use Rattle.auth_engine.specs.Authentic.{IsAuthentic, IsFirstRefused}
 use Rattle.auth_engine.specs.Judging.{FirstRefused}
-use Rattle.auth_engine.specs.Outcome.{pair_of, IsVerdict, IsFinding, IsOutcome, IsVerdictOver, HasAuthenticTarget}
+use Rattle.auth_engine.specs.Outcome.{pair_of, IsVerdict, IsJudgedOver, IsJudgedVerdict, IsFinding, IsOutcome, IsVerdictOver, HasAuthenticTarget}
 use Rattle.auth_engine.specs.SoundCache.{IsSoundEntry, IsSoundValue, HasSoundEntries, IsSoundCache, IsSoundOrNone}
 use Rattle.auth_engine.specs.Starting.{target_of, intro_of, ring_of, start_of, scope_of, world_in, entries_of, cached_of}
 use Rattle.auth_engine.specs.Steps.{engine_fail, Relates, store_of, JudgesWell, JudgesBadly, JudgesNew}
@@ -77,6 +77,13 @@ module _ (P : Parenthood) (target intro : Id) (entries : List Id) where
       at_one (Reaches P target) commits c new.reached has,
       λ r. at_one (λ (d : Id). ¬ IsCovered P target intro entries d) commits c new.bare has (inl r),
     )
+
+    -- whatever holds of these commits holds of all that isn't covered
+    pub of_uncovered : (Is : Id → Type 0) → All Is commits → (c : Id) → IsUncovered P target intro entries c → Is c
+    of_uncovered Is all c is = elim (new.complete c is.0) [
+      | inl has ↦ at_one Is commits c all has
+      | inr covered ↦ absurd (is.1 covered)
+    ]
 
     -- whatever holds of the commits that aren't covered, and of what the entries cover, holds of all that is new
     pub of_new : (Is : Id → Type 0) → All Is commits → ((c : Id) → IsNew P target intro c → IsCoveredByEntry P target intro entries c → Is c) → (c : Id) → IsNew P target intro c → Is c
@@ -194,10 +201,18 @@ module _ (w : World) (task : Task) (start : Start) (graph : History) (whole : Is
           recorded = well.recorded;
         }
 
+    judged_over : (verdict : Verdict) → JudgesWell w task (scope_of task start.ring) start.ring.keys graph.held start.target entries older verdict → IsJudgedOver w task start entries
+    judged_over verdict well = record {
+      whole = whole;
+      introduced = introduced;
+      related = related_there relates.0;
+      authorised = of_uncovered (history w) start.target task.intro entries well.commits (moved_new well.commits well.uncovered) (λ (d : Id). cause w (scope_of task start.ring) start.ring.keys d ≡ None) well.signed.causeless;
+    }
+
     -- whatever the entries are worth, an accepted target has a verdict
     pub verdict_found : (result : Result Verdict EngineFail) → JudgesNew w task (scope_of task start.ring) start.ring.keys graph.held start.target entries older result
-        → IfOk result (IsVerdict w task start entries)
-    verdict_found (Ok verdict) well = verdict_of verdict well
+        → IfOk result (IsJudgedVerdict w task start entries)
+    verdict_found (Ok verdict) well = (judged_over verdict well, verdict_of verdict well)
     verdict_found (Err fail) judged = tt
 
     module _ (sound : All (IsSoundEntry w (scope_of task start.ring) start.ring.keys) entries) where
@@ -295,11 +310,11 @@ finding_outcome rows sigs task kept start entries result begins cached finding =
 -- the verdict under a start is that over what is kept
 pub verdict_over : (rows : List GitRow) (sigs : List SigRow) (task : Task) (kept : Option (List ℕ)) (start : Start) (entries : List Id) (result : Result Verdict EngineFail)
     → Ok start ≡ start_of rows task → Ok entries ≡ entries_of (scope_of task start.ring) kept
-    → IfOk result (IsVerdict (world_in rows sigs task start.ring) task start entries) → IfOk result (IsVerdictOver rows sigs task kept)
+    → IfOk result (IsJudgedVerdict (world_in rows sigs task start.ring) task start entries) → IfOk result (IsVerdictOver rows sigs task kept)
 verdict_over rows sigs task kept start entries (Err fail) begins cached is = tt
 verdict_over rows sigs task kept start entries (Ok verdict) begins cached is =
-    subst (λ (s : Result Start EngineFail). MatchResult s (λ start. MatchResult (entries_of (scope_of task start.ring) kept) (λ entries. IsVerdict (world_in rows sigs task start.ring) task start entries verdict) (λ _. ⊥)) (λ _. ⊥)) begins
-    (subst (λ (c : Result (List Id) CacheFail). MatchResult c (λ entries. IsVerdict (world_in rows sigs task start.ring) task start entries verdict) (λ _. ⊥)) cached is)
+    subst (λ (s : Result Start EngineFail). MatchResult s (λ start. MatchResult (entries_of (scope_of task start.ring) kept) (λ entries. IsJudgedVerdict (world_in rows sigs task start.ring) task start entries verdict) (λ _. ⊥)) (λ _. ⊥)) begins
+    (subst (λ (c : Result (List Id) CacheFail). MatchResult c (λ entries. IsJudgedVerdict (world_in rows sigs task start.ring) task start entries verdict) (λ _. ⊥)) cached is)
 
 -- what is kept gives these entries
 pub cached_ok : (entries : List Id) (v : Result (List Id) CacheFail) → ◌≡◌ {A = Result (List Id) EngineFail} (Ok entries) (result_map_both (λ (entries : List Id). entries) Cache v) → Ok entries ≡ v

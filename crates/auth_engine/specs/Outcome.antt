@@ -10,9 +10,9 @@ use Rattle.auth_cache.specs.Found.{CanBeRecorded}
 use Rattle.auth_cache.specs.Text.{text_of}
 use Rattle.commit_graph.specs.Chains.{Reaches}
 use Rattle.commit_graph.specs.History.{IsLeast}
-use Rattle.commit_graph.specs.Covers.{IsRelated, IsCovered, AreUncovered}
+use Rattle.commit_graph.specs.Covers.{IsRelated, IsCovered, IsUncovered, AreUncovered}
 use Rattle.auth_rules.specs.World.{World, Id}
-use Rattle.auth_rules.specs.Rules.{signer, intro_cause}
+use Rattle.auth_rules.specs.Rules.{signer, cause, intro_cause}
 use Rattle.commit_history.specs.Members.{history, IsMember, IsSound, IsWhole, AtMost, MoreThan}
 use Rattle.commit_history.specs.Answers.{IsUnsoundMember, IsEndlessMember}
 use Rattle.auth_engine.specs.declared.task.Task.{Task}
@@ -91,11 +91,24 @@ IsOutcome rows sigs task kept result = MatchResult (start_of rows task)
     (λ fail. result ≡ Err (Cache fail)))
     (λ fail. result ≡ Err fail)
 
--- The verdict on a task, whatever is kept for it, sound or not: what was judged over the entries that were read, and what is to be
--- kept.
+-- ---- the verdict, whatever is kept
+
+-- What was judged over these entries, sound or not: a whole history, an introduction and a target that are related, and each commit
+-- that the entries don't cover.
+pub record IsJudgedOver (w : World) (task : Task) (start : Start) (entries : List Id) : Type 0 where
+  pub whole : IsWhole w start.target task.intro
+  pub introduced : intro_cause w (scope_of task start.ring) start.ring.keys ≡ None
+  pub related : IsRelated (history w) start.target task.intro
+  pub authorised : (c : Id) → IsUncovered (history w) start.target task.intro entries c → cause w (scope_of task start.ring) start.ring.keys c ≡ None
+
+-- the verdict over these entries, and what was judged for it
+abbrev pub IsJudgedVerdict : World → Task → Start → List Id → Verdict → Type 0
+IsJudgedVerdict w task start entries verdict = IsJudgedOver w task start entries × IsVerdict w task start entries verdict
+
+-- the verdict on a task over what is kept for it, sound or not
 abbrev pub IsVerdictOver : List GitRow → List SigRow → Task → Option (List ℕ) → Verdict → Type 0
 IsVerdictOver rows sigs task kept verdict = MatchResult (start_of rows task)
     (λ start. MatchResult (entries_of (scope_of task start.ring) kept)
-    (λ entries. IsVerdict (world_in rows sigs task start.ring) task start entries verdict)
+    (λ entries. IsJudgedVerdict (world_in rows sigs task start.ring) task start entries verdict)
     (λ _. ⊥))
     (λ _. ⊥)

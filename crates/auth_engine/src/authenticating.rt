@@ -81,7 +81,8 @@ pub fn authenticate<G: GitPort, V: SigPort, K: Keeper>(
         IsSoundOrNone (G.table git.old) (V.table sig.old) task.now kept →
         OnFinding result (IsOutcome (G.table git.old) (V.table sig.old) task.now kept result) }
 
-    // Whatever is kept, sound or not, an accepted target has a verdict on what was judged, and only what that says is to be kept.
+    // Whatever is kept, sound or not, an accepted target has a verdict: the history is whole, the introduction stands, the two are
+    // related, each commit that the entries don't cover was judged, and only what that says is to be kept.
     ensures verdict { IsTrue (G.tells git.old) → IsTrue (V.tells sig.old) → IsTrue (K.tells keeper.old) →
         IfOk result (IsVerdictOver (G.table git.old) (V.table sig.old) task.now (map.get (K.kept keeper.old) task.now.cache_key)) }
 

@@ -10,7 +10,7 @@ ghost use Rattle.auth_rules.specs.Answers.{ListsParents};
 ghost use Rattle.auth_rules.specs.World.{world_of};
 ghost use Rattle.auth_engine.specs.Answers.{OnFinding, is_git_fault, is_sig_fault, is_keep_fault};
 ghost use Rattle.auth_engine.specs.Asked.{AsksNew, AsksFor};
-ghost use Rattle.auth_engine.specs.Outcome.{IsFinding, IsVerdict};
+ghost use Rattle.auth_engine.specs.Outcome.{IsFinding, IsJudgedVerdict};
 ghost use Rattle.auth_engine.specs.SoundCache.{IsSoundEntry};
 ghost use Rattle.auth_engine.specs.Starting.{scope_of, world_in};
 ghost use Rattle.auth_engine.specs.Steps.{JudgesNew, store_of};
@@ -130,7 +130,7 @@ pub fn decide<G: GitPort, V: SigPort>(
     ensures verdict { IsTrue (G.tells git.old) → IsTrue (V.tells sig.old) →
         let w = world_in (G.table git.old) (V.table sig.old) task.now start.now.ring in
         IsWhole w start.now.target task.now.intro → HoldsHistory w start.now.target task.now.intro graph.old →
-        IfOk result (IsVerdict w task.now start.now entries.now) }
+        IfOk result (IsJudgedVerdict w task.now start.now entries.now) }
     ensures asked { IsTrue (G.tells git.old) → IsTrue (V.tells sig.old) →
         let w = world_in (G.table git.old) (V.table sig.old) task.now start.now.ring in
         IsWhole w start.now.target task.now.intro → HoldsHistory w start.now.target task.now.intro graph.old →

@@ -1,5 +1,5 @@
 -- What a run of `authenticate` comes to.
-use Rattle.std.specs.Prelude.{◌≡◌, ◌≢◌, ◌⊎◌, ℕ, Bool, false, nat_eq, List, Some, Result, Ok, Err, MatchResult}
+use Rattle.std.specs.Prelude.{◌≡◌, ◌≢◌, ◌⊎◌, ℕ, Bool, false, nat_eq, List, Some, Result, Ok, Err, MatchResult, IfOk}
 use Rattle.child_ports.specs.Keeper.{Kept}
 use Rattle.child_ports.specs.KeySet.{Keys}
 use Rattle.auth_engine.specs.declared.task.Verdict.{Verdict}
@@ -56,9 +56,11 @@ abbrev pub Tells : Result Verdict EngineFail → ℕ → Type 0
 Tells (Ok verdict) status = (status ≡ 0) ⊎ (status ≡ 5) ⊎ (status ≡ 6)
 Tells (Err fail) status = (status ≡ status_of fail) ⊎ (status ≡ 6)
 
--- what was found is the outcome, where what is kept is sound or no cache text, unless it is a fault or want of memory
+-- What was found is the outcome, where what is kept is sound or no cache text, unless it is a fault or want of memory. A verdict is
+-- that over what is kept, sound or not.
 abbrev pub IsFound : Outside → Plan → Keys → Result Verdict EngineFail → Type 0
-IsFound o plan keys found = HasSoundOrNone o plan keys → OnFinding found (IsOutcome o.answers o.verdicts (task_for plan keys) (cache_in o.kept plan) found)
+IsFound o plan keys found = (HasSoundOrNone o plan keys → OnFinding found (IsOutcome o.answers o.verdicts (task_for plan keys) (cache_in o.kept plan) found))
+    × IfOk found (IsVerdictOver o.answers o.verdicts (task_for plan keys) (cache_in o.kept plan))
 
 -- gpgv was asked as often as it takes what was found, which the status tells of
 abbrev pub AsksAsTold : Outside → Plan → Keys → ℕ → ℕ → ℕ → Type 0

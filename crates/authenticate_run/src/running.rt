@@ -1,6 +1,7 @@
 //! A run of `authenticate`.
 ghost use Rattle.std.specs.Prelude.{◌≡◌, ◌≢◌, ◌⊎◌, IsTrue};
 ghost use Rattle.child_ports.specs.Causes.{AtMostOnce, Stayed};
+ghost use Rattle.child_ports.specs.Named.{NamedAtMost};
 ghost use Rattle.auth_engine.specs.Outcome.{HasAuthenticTarget};
 ghost use Rattle.auth_words.specs.Words.{IsFitting};
 ghost use Rattle.run_answers.specs.Answers.{Answer};
@@ -63,6 +64,7 @@ fn run_task<G: GitPort, V: SigPort, K: Keeper, O: Sink, E: Sink>(
     ensures unstored { result ≢ 0 → result ≢ 5 → result ≢ 6 → K.stores keeper.new ≡ K.stores keeper.old }
     ensures asked { IsTrue (G.tells git.old) → IsTrue (V.tells gpgv.old) → IsTrue (K.tells keeper.old) →
         AsksAsTold (outside (G.table git.old) (V.table gpgv.old) (K.kept keeper.old)) plan.now historical result (V.asked gpgv.old) (V.asked gpgv.new) }
+    ensures named { NamedAtMost 3 (G.named git.old) (G.named git.new) }
     ensures git_told { G.tells git.new ≡ G.tells git.old }
     ensures git_table { G.table git.new ≡ G.table git.old }
     ensures gpgv_told { V.tells gpgv.new ≡ V.tells gpgv.old }
@@ -124,6 +126,8 @@ pub fn run_authenticate<G: GitPort, V: SigPort, K: Keeper, R: FileRoom, O: Sink,
     ensures unstored { result ≢ 0 → result ≢ 5 → result ≢ 6 → K.stores keeper.new ≡ K.stores keeper.old }
     ensures asked { IsTrue (G.tells git.old) → IsTrue (V.tells gpgv.old) → IsTrue (K.tells keeper.old) → IsTrue (R.tells room.old) →
         AsksFor (outside (G.table git.old) (V.table gpgv.old) (K.kept keeper.old)) (R.files room.old) plan.now result (V.asked gpgv.old) (V.asked gpgv.new) }
+    // The end and the keyring branch, here and then where a clone has it: no other name than ids in full is asked.
+    ensures named { NamedAtMost 3 (G.named git.old) (G.named git.new) }
     ensures git_told { G.tells git.new ≡ G.tells git.old }
     ensures git_table { G.table git.new ≡ G.table git.old }
     ensures gpgv_told { V.tells gpgv.new ≡ V.tells gpgv.old }

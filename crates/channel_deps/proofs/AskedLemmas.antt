@@ -1,5 +1,5 @@
 -- What channels come to over what is kept for them, and their questions, step by step.
-use Rattle.std.proofs.Common.{◌≡◌, ◌⊎◌, inl, inr, ℕ, zero, suc, ◌+◌, ◌≤◌, List, [], ◌∷◌, ◌++◌, map, length, take, drop, Option, Some, Ok, Err, refl, sym, ap, subst, ◌∙◌, arith}
+use Rattle.std.proofs.Common.{◌≡◌, ◌⊎◌, inl, inr, ℕ, ◌+◌, ◌≤◌, List, [], ◌∷◌, ◌++◌, map, length, length-append, take, drop, Option, Some, Ok, Err, refl, sym, ap, subst, ◌∙◌, arith}
 use Rattle.std.specs.Prelude.{Result, flat_map, MatchResult}
 use Rattle.std.proofs.lemmas.List.{take-append-drop}
 use Rattle.child_ports.specs.declared.git.GitRow.{GitRow}
@@ -12,7 +12,7 @@ use Rattle.auth_engine.specs.declared.starting.Start.{Start}
 use Rattle.auth_engine.specs.declared.engine_fail.EngineFail.{EngineFail}
 use Rattle.auth_engine.specs.Asked.{Asks, AsksFor}
 use Rattle.auth_engine.specs.Judging.{more}
-use Rattle.auth_engine.specs.Outcome.{IsVerdict, IsVerdictOver}
+use Rattle.auth_engine.specs.Outcome.{IsJudgedVerdict, IsVerdictOver}
 use Rattle.auth_engine.specs.Starting.{start_of, scope_of, world_in, entries_of}
 use Rattle.channel_file.specs.declared.channel.Channel.{Channel}
 use Rattle.channel_file.specs.declared.channel.Introduction.{Introduction}
@@ -31,24 +31,25 @@ use Rattle.channel_deps.specs.Members.{with_mentions}
 use Rattle.channel_deps.specs.Moves.{IsMove}
 use Rattle.channel_deps.specs.Outcome.{taken_as, listed}
 use Rattle.channel_deps.specs.Outside.{Outside}
-use Rattle.channel_deps.specs.Over.{IsChannelVerdict, IsCheckedOver, IsTakenOver, AreTakenOver, IsSetVerdictOver}
+use Rattle.channel_deps.specs.Over.{IsChannelVerdict, IsCheckedOver, IsTakenOver, AreTakenOver, HasTakenOver, IsSetVerdictOver}
 use Rattle.channel_deps.specs.Reading.{known_of}
 use Rattle.channel_deps.specs.Standings.{introduction_for, standing_of}
-use Rattle.channel_deps.specs.Steps.{HasTakenUp, TakesUp}
-use Rattle.channel_deps.proofs.WalkLemmas.{map_more, flat_more, listed_more, front_channels, next_channels}
+use Rattle.channel_deps.specs.Steps.{IsAt, HasTakenUp, TakesUp}
+use Rattle.channel_deps.proofs.MemberLemmas.{no_shorter}
+use Rattle.channel_deps.proofs.WalkLemmas.{map_more, flat_more, listed_more, known_none, known_more, front_channels, next_channels, take_whole, drop_whole}
 
 -- ---- one check
 
 module _ (rows : List GitRow) (sigs : List SigRow) (task : Task) (kept : Option (List ℕ)) (verdict : Verdict) (before now : ℕ) where
   at_entries : (start : Start) (v : Result (List Id) CacheFail)
-      → MatchResult v (λ entries. IsVerdict (world_in rows sigs task start.ring) task start entries verdict) (λ _. ⊥)
+      → MatchResult v (λ entries. IsJudgedVerdict (world_in rows sigs task start.ring) task start entries verdict) (λ _. ⊥)
       → MatchResult v (λ entries. AsksFor (world_in rows sigs task start.ring) task start entries (Ok verdict) before now) (λ _. now ≡ before)
       → now ≡ more (1 + verdict.judged) before
   at_entries start (Ok entries) over asks = asks
   at_entries start (Err why) over asks = absurd over
 
   at_start : (v : Result Start EngineFail)
-      → MatchResult v (λ start. MatchResult (entries_of (scope_of task start.ring) kept) (λ entries. IsVerdict (world_in rows sigs task start.ring) task start entries verdict) (λ _. ⊥)) (λ _. ⊥)
+      → MatchResult v (λ start. MatchResult (entries_of (scope_of task start.ring) kept) (λ entries. IsJudgedVerdict (world_in rows sigs task start.ring) task start entries verdict) (λ _. ⊥)) (λ _. ⊥)
       → MatchResult v (λ start. MatchResult (entries_of (scope_of task start.ring) kept) (λ entries. AsksFor (world_in rows sigs task start.ring) task start entries (Ok verdict) before now) (λ _. now ≡ before)) (λ _. now ≡ before)
       → now ≡ more (1 + verdict.judged) before
   at_start (Ok start) over asks = at_entries start (entries_of (scope_of task start.ring) kept) over asks
@@ -124,35 +125,45 @@ asks_more o s (d ∷ cs) c before mid now each passed = (each.0, each.1, asks_mo
 -- the channels before a place passed, with these questions, and the walk has what was found of them
 pub record HasGone (o : Outside) (s : SetTask) (i : ℕ) (walk : Walk) (before now : ℕ) : Type 0 where
   pub taken : List Taken
-  pub found : AreTakenOver o s (take i walk.list) taken
-  pub list : listed s taken ≡ walk.list
+  pub front : HasTakenOver o s (take i walk.list) taken (drop i walk.list)
   pub members : walk.members ≡ map (λ (t : Taken). t.member) taken
   pub store : walk.store ≡ flat_map (λ (t : Taken). t.store) taken
+  pub count : length taken ≡ i
+  pub within : i ≤ length walk.list
   pub asks : AsksEach o s (take i walk.list) before now
 
-pub none_gone : (o : Outside) (s : SetTask) (walk : Walk) (count : ℕ) → walk ≡ record { list = s.channels; members = []; store = [] } → HasGone o s 0 walk count count
-none_gone o s walk count is = subst (λ (w : Walk). HasGone o s 0 w count count) (sym is) (record {
+pub none_gone : (o : Outside) (s : SetTask) (walk : Walk) (count : ℕ) → walk ≡ record { list = s.channels; members = []; store = [] } → length s.channels ≤ 256 → HasGone o s 0 walk count count
+none_gone o s walk count is few = subst (λ (w : Walk). HasGone o s 0 w count count) (sym is) (record {
   taken = [];
-  found = tt;
-  list = refl;
+  front = record { found = tt; list = refl; few = few; known = known_none s };
   members = refl;
   store = refl;
+  count = refl;
+  within = omega arith;
   asks = refl;
 })
 
 pub gone_more : (o : Outside) (s : SetTask) (i : ℕ) (walk new : Walk) (before mid now : ℕ) → HasGone o s i walk before mid → GoesNext o s i walk (Ok new) mid now → HasGone o s (i + 1) new before now
 gone_more o s i walk new before mid now gone next =
     let channel = next.0 in
+    let at : IsAt walk.list i channel = next.1 in
     let one = next.2 in
     let t = one.0 in
     let up : HasTakenUp walk t new = one.2 in
-    let front = front_channels i walk channel next.1 t new up in
+    let front = front_channels i walk channel at t new up in
+    let whole : listed s gone.taken ≡ walk.list = gone.front.list ∙ take-append-drop i walk.list in
     record {
       taken = gone.taken ++ t ∷ [];
-      found = subst (λ (cs : List Channel). AreTakenOver o s cs (gone.taken ++ t ∷ [])) (sym front) (over_more o s (take i walk.list) gone.taken channel t gone.found one.1);
-      list = listed_more s gone.taken t ∙ ap (λ (l : List Channel). with_mentions l t.mentions) gone.list ∙ sym up.list;
+      front = record {
+        found = subst (λ (cs : List Channel). AreTakenOver o s cs (gone.taken ++ t ∷ [])) (sym front) (over_more o s (take i walk.list) gone.taken channel t gone.front.found one.1);
+        list = listed_more s gone.taken t ∙ ap (λ (l : List Channel). with_mentions l t.mentions) whole ∙ sym up.list ∙ sym (take-append-drop (i + 1) new.list);
+        few = subst (λ (l : List Channel). length l ≤ 256) (sym (take-append-drop (i + 1) new.list)) up.few;
+        known = known_more s gone.taken t gone.front.known (let low = at.within in omega (arith, gone.count, ap length whole));
+      };
       members = up.members ∙ ap (λ l. l ++ t.member ∷ []) gone.members ∙ sym (map_more gone.taken t);
       store = up.store ∙ ap (λ l. l ++ t.store) gone.store ∙ sym (flat_more (λ (x : Taken). x.store) gone.taken t);
+      count = omega (arith, length-append gone.taken (t ∷ []), gone.count);
+      within = let low = at.within in omega (arith, ap length up.list, no_shorter walk.list t.mentions);
       asks = subst (λ (cs : List Channel). AsksEach o s cs before now) (sym front) (asks_more o s (take i walk.list) channel before mid now gone.asks one.3);
     }
 
@@ -163,33 +174,28 @@ gone_stops o s i walk e before mid now gone next = record {
   taken = gone.taken;
   channel = next.0;
   left = drop (i + 1) walk.list;
-  found = gone.found;
-  list = gone.list ∙ sym (take-append-drop i walk.list) ∙ ap (λ (l : List Channel). take i walk.list ++ l) (next_channels i walk next.0 next.1);
+  front = subst (λ (l : List Channel). HasTakenOver o s (take i walk.list) gone.taken l) (next_channels i walk next.0 next.1) gone.front;
   between = mid;
   passed = gone.asks;
   last = next.2;
 }
 
-take_all : {A : Type 0} (l : List A) (i : ℕ) → length l ≤ i → take i l ≡ l
-take_all [] zero low = refl
-take_all [] (suc i) low = refl
-take_all (x ∷ l) zero low = absurd (omega (arith, low))
-take_all (x ∷ l) (suc i) low = ap (λ (r : List _). x ∷ r) (take_all l i (omega (arith, low)))
-
 -- all of the list passed
 pub all_gone : (o : Outside) (s : SetTask) (i : ℕ) (walk : Walk) (verdict : SetVerdict) (before now : ℕ) → HasGone o s i walk before now → length walk.list ≤ i → verdict.members ≡ walk.members → verdict.store ≡ walk.store
     → (over : IsSetVerdictOver o s verdict) × AsksEach o s over.channels before now
 all_gone o s i walk verdict before now gone all members store =
-    let whole = take_all walk.list i all in (
+    let is : i ≡ length walk.list = omega (arith, gone.within, all) in
+    let before_all = subst (λ (n : ℕ). HasTakenOver o s (take n walk.list) gone.taken (drop n walk.list)) is gone.front in
+    let taken = subst (λ (l : List Channel). HasTakenOver o s l gone.taken (drop (length walk.list) walk.list)) (take_whole walk.list) before_all in
+    let asks = subst (λ (n : ℕ). AsksEach o s (take n walk.list) before now) is gone.asks in (
       record {
         channels = walk.list;
         taken = gone.taken;
-        found = subst (λ (cs : List Channel). AreTakenOver o s cs gone.taken) whole gone.found;
-        list = gone.list;
+        whole = subst (λ (l : List Channel). HasTakenOver o s walk.list gone.taken l) (drop_whole walk.list) taken;
         members = members ∙ gone.members;
         store = store ∙ gone.store;
       },
-      subst (λ (cs : List Channel). AsksEach o s cs before now) whole gone.asks,
+      subst (λ (cs : List Channel). AsksEach o s cs before now) (take_whole walk.list) asks,
     )
 
 pub all_over : (o : Outside) (s : SetTask) (i : ℕ) (walk : Walk) (verdict : SetVerdict) (before now : ℕ) → HasGone o s i walk before now → length walk.list ≤ i → verdict.members ≡ walk.members → verdict.store ≡ walk.store

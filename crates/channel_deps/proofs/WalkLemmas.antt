@@ -61,6 +61,25 @@ cut (x ∷ ts) t u (b ∷ before) after is =
     (λ last. inr (ap (λ (l : List Taken). b ∷ l) last ∙ ap (λ (y : Taken). y ∷ ts) (sym first)))
     (cut ts t u before after rest)
 
+no_cut : (before after : List Taken) (t : Taken) → [] ≡ before ++ t ∷ after → ⊥
+no_cut [] after t is = absurd (cc)
+no_cut (b ∷ before) after t is = absurd (cc)
+
+-- ---- where each channel is known from
+
+-- each was mentioned by one before it, or given
+abbrev pub AreKnown : SetTask → List Taken → Type 0
+AreKnown s taken = (before after : List Taken) (t : Taken) → taken ≡ before ++ t ∷ after → length before < length (listed s before)
+
+pub known_none : (s : SetTask) → AreKnown s []
+known_none s before after t split = absurd (no_cut before after t split)
+
+pub known_more : (s : SetTask) (ts : List Taken) (t : Taken) → AreKnown s ts → length ts < length (listed s ts) → AreKnown s (ts ++ t ∷ [])
+known_more s ts t known low before after u split = ⊎_elim
+    (λ inside. known before inside.0 u inside.1)
+    (λ last. subst (λ (b : List Taken). length b < length (listed s b)) (sym last) low)
+    (cut ts t u before after split)
+
 -- ---- one more channel
 
 -- the channels up to the next
@@ -91,10 +110,7 @@ module _ (o : Outside) (s : SetTask) (i : ℕ) (walk : Walk) (walked : HasWalked
       found = subst (λ (cs : List Channel). AreTakenAs o s cs (walked.taken ++ t ∷ [])) (sym (front_channels i walk channel at t new up)) (taken_more o s (take i walk.list) walked.taken channel t walked.front.found is);
       list = grown ∙ sym (take-append-drop (i + 1) new.list);
       few = subst (λ (l : List Channel). length l ≤ 256) (sym (take-append-drop (i + 1) new.list)) up.few;
-      known = λ before after u split. ⊎_elim
-          (λ inside. walked.front.known before inside.0 u inside.1)
-          (λ last. subst (λ (b : List Taken). length b < length (listed s b)) (sym last) (let low = at.within in omega (arith, walked.count, ap length whole)))
-          (cut walked.taken t u before after split);
+      known = known_more s walked.taken t walked.front.known (let low = at.within in omega (arith, walked.count, ap length whole));
     };
     members = up.members ∙ ap (λ l. l ++ t.member ∷ []) walked.members ∙ sym (map_more walked.taken t);
     store = up.store ∙ ap (λ l. l ++ t.store) walked.store ∙ sym (flat_more (λ (x : Taken). x.store) walked.taken t);
@@ -104,23 +120,19 @@ module _ (o : Outside) (s : SetTask) (i : ℕ) (walk : Walk) (walked : HasWalked
 
 -- ---- how a walk begins and ends
 
-drop_whole : {A : Type 0} (l : List A) → drop (length l) l ≡ []
+pub drop_whole : {A : Type 0} (l : List A) → drop (length l) l ≡ []
 drop_whole [] = refl
 drop_whole (x ∷ l) = drop_whole l
 
-take_whole : {A : Type 0} (l : List A) → take (length l) l ≡ l
+pub take_whole : {A : Type 0} (l : List A) → take (length l) l ≡ l
 take_whole [] = refl
 take_whole (x ∷ l) = ap (λ (r : List _). x ∷ r) (take_whole l)
-
-no_cut : (before after : List Taken) (t : Taken) → [] ≡ before ++ t ∷ after → ⊥
-no_cut [] after t is = absurd (cc)
-no_cut (b ∷ before) after t is = absurd (cc)
 
 -- nothing was taken yet
 pub none_walked : (o : Outside) (s : SetTask) (walk : Walk) → walk ≡ record { list = s.channels; members = []; store = [] } → length s.channels ≤ 256 → HasWalked o s 0 walk
 none_walked o s walk is few = subst (λ (w : Walk). HasWalked o s 0 w) (sym is) (record {
   taken = [];
-  front = record { found = tt; list = refl; few = few; known = λ before after t split. absurd (no_cut before after t split) };
+  front = record { found = tt; list = refl; few = few; known = known_none s };
   members = refl;
   store = refl;
   count = refl;

@@ -1,5 +1,5 @@
 -- How many questions gpgv is asked for a set.
-use Rattle.std.specs.Prelude.{◌≡◌, ◌⊎◌, ◌+◌, ◌++◌, ℕ, List, [], ◌∷◌, Option, Some, None, Result, Ok, Err, MatchResult}
+use Rattle.std.specs.Prelude.{◌≡◌, ◌⊎◌, ◌+◌, ℕ, List, [], ◌∷◌, Option, Some, None, Result, Ok, Err, MatchResult}
 use Rattle.std.specs.FinMap as maps
 use Rattle.channel_file.specs.declared.channel.Channel.{Channel}
 use Rattle.channel_file.specs.declared.channel.Introduction.{Introduction}
@@ -15,9 +15,8 @@ use Rattle.channel_deps.specs.declared.known.Known.{Known}
 use Rattle.channel_deps.specs.declared.known.Checked.{Checked}
 use Rattle.channel_deps.specs.declared.known.Taken.{Taken}
 use Rattle.channel_deps.specs.declared.walking.Walk.{Walk}
-use Rattle.channel_deps.specs.Outcome.{listed}
 use Rattle.channel_deps.specs.Outside.{Outside}
-use Rattle.channel_deps.specs.Over.{IsChannelVerdict, IsTakenOver, AreTakenOver, IsSetVerdictOver}
+use Rattle.channel_deps.specs.Over.{IsChannelVerdict, IsTakenOver, HasTakenOver, IsSetVerdictOver}
 use Rattle.channel_deps.specs.Places.{task_of, cache_key}
 use Rattle.channel_deps.specs.Reading.{known_of}
 use Rattle.channel_deps.specs.Standings.{introduction_for}
@@ -70,8 +69,7 @@ pub record AsksUpTo (o : Outside) (s : SetTask) (fail : SetFail) (before now : �
   pub taken : List Taken
   pub channel : Channel
   pub left : List Channel
-  pub found : AreTakenOver o s channels taken
-  pub list : listed s taken ≡ channels ++ channel ∷ left
+  pub front : HasTakenOver o s channels taken (channel ∷ left)
   pub between : ℕ
   pub passed : AsksEach o s channels before between
   pub last : AsksStopped o s channel fail between now
@@ -79,7 +77,7 @@ pub record AsksUpTo (o : Outside) (s : SetTask) (fail : SetFail) (before now : �
 -- The questions of a set: those of each of its channels, or up to the one where it ends. Want of memory may come before all.
 abbrev pub AsksSet : Outside → SetTask → Result SetVerdict SetFail → ℕ → ℕ → Type 0
 AsksSet o s (Ok verdict) before now = (over : IsSetVerdictOver o s verdict) × AsksEach o s over.channels before now
-AsksSet o s (Err fail) before now = StopsUnasked fail before now ⊎ AsksUpTo o s fail before now
+AsksSet o s (Err fail) before now = ((fail ≡ Memory) × (now ≡ before)) ⊎ AsksUpTo o s fail before now
 
 -- ---- the steps
 

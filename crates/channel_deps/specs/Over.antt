@@ -1,5 +1,5 @@
 -- What channels come to over what is kept for them, sound or not.
-use Rattle.std.specs.Prelude.{◌≡◌, List, [], ◌∷◌, map, flat_map, Option, Some, None, Ok, MatchResult}
+use Rattle.std.specs.Prelude.{◌≡◌, ◌<◌, ◌≤◌, List, [], ◌∷◌, ◌++◌, length, map, flat_map, Option, Some, None, Ok, MatchResult}
 use Rattle.std.specs.FinMap as maps
 use Rattle.channel_file.specs.declared.channel.Channel.{Channel}
 use Rattle.channel_file.specs.declared.channel.Introduction.{Introduction}
@@ -43,11 +43,17 @@ AreTakenOver o s [] [] = Unit {0}
 AreTakenOver o s (channel ∷ channels) (t ∷ taken) = IsTakenOver o s channel t × AreTakenOver o s channels taken
 AreTakenOver o s _ _ = ⊥
 
+-- These channels passed, over what is kept for each, and these are left. Each was mentioned by one before it, or given.
+pub record HasTakenOver (o : Outside) (s : SetTask) (channels : List Channel) (taken : List Taken) (left : List Channel) : Type 0 where
+  pub found : AreTakenOver o s channels taken
+  pub list : listed s taken ≡ channels ++ left
+  pub few : length (channels ++ left) ≤ 256
+  pub known : (before after : List Taken) (t : Taken) → taken ≡ before ++ t ∷ after → length before < length (listed s before)
+
 -- The verdict on a set, whatever is kept: these are its channels, and all passed. What is to be kept is that of each of them.
 pub record IsSetVerdictOver (o : Outside) (s : SetTask) (verdict : SetVerdict) : Type 0 where
   pub channels : List Channel
   pub taken : List Taken
-  pub found : AreTakenOver o s channels taken
-  pub list : listed s taken ≡ channels
+  pub whole : HasTakenOver o s channels taken []
   pub members : verdict.members ≡ map (λ (t : Taken). t.member) taken
   pub store : verdict.store ≡ flat_map (λ (t : Taken). t.store) taken

@@ -33,8 +33,8 @@ pub trait GitPort {
 
     /// How many names were asked that are no ids in full, whatever the answers. It stays at the last u64.
     ///
-    /// An object has to have the id in full that was asked. Any other name can come to stand for something else between
-    /// two questions, so none is asked twice.
+    /// An id in full binds its answer: the object has to have it. Any other name can come to stand for something else
+    /// between two questions: a bound on this count is a bound on how often that can happen.
     ghost named: { Self → ℕ };
 
     /// What of the last answer is unread.

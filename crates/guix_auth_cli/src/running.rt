@@ -1,6 +1,7 @@
 //! The top call.
 ghost use Rattle.std.specs.Prelude.{◌≡◌, ◌≢◌, ◌⊎◌, Some, IsTrue, MatchOption, false};
 ghost use Rattle.child_ports.specs.Causes.{AtMostOnce, Stayed};
+ghost use Rattle.child_ports.specs.Named.{NamedAtMost};
 ghost use Rattle.auth_words.specs.declared.plan.Plan.{Plan};
 ghost use Rattle.auth_words.specs.declared.plan.ChannelsPlan.{ChannelsPlan};
 ghost use Rattle.auth_words.specs.declared.plan.Command.TheVariants.{Authenticate, Channels};
@@ -129,7 +130,11 @@ pub fn run<G: GitPort, V: SigPort, K: Keeper, R: FileRoom, O: Sink, E: Sink>(
         IsTrue (G.tells git.old) → IsTrue (V.tells gpgv.old) → IsTrue (K.tells keeper.old) → IsTrue (R.tells room.old) →
         AsksFor (outside (G.table git.old) (V.table gpgv.old) (K.kept keeper.old)) (R.files room.old) plan result (V.asked gpgv.old) (V.asked gpgv.new) }
 
-    // For a set the same of each channel that is checked, up to the one that is refused.
+    // Any name but an id in full can come to stand for something else: for one target at most its own and the keyring branch's two
+    // are asked.
+    ensures named { (plan : Plan) → command_of words.now ≡ Some (Authenticate plan) → NamedAtMost 3 (G.named git.old) (G.named git.new) }
+
+    // For a set gpgv is asked likewise for each channel that is checked, up to the one that is refused.
     ensures set_asked { (plan : ChannelsPlan) → command_of words.now ≡ Some (Channels plan) →
         IsTrue (G.tells git.old) → IsTrue (V.tells gpgv.old) → IsTrue (K.tells keeper.old) → IsTrue (R.tells room.old) →
         SetAsksFor (outside (G.table git.old) (V.table gpgv.old) (K.kept keeper.old)) (R.files room.old) plan result (V.asked gpgv.old) (V.asked gpgv.new) }

@@ -2,7 +2,6 @@
 use Rattle.std.proofs.Common.{◌≡◌, ℕ, nat_lt, Bool, true, false, List, [], ◌∷◌, ◌++◌, length, codes, refl, sym, ap, ◌∙◌, subst, append_assoc, append-nil}
 use Rattle.std.specs.Prelude.{Result, Ok, Err, IfOk, if◌then◌else◌}
 use Rattle.std.specs.FinSet.{empty, union}
-use Rattle.hex.specs.Hex.{encode_lower}
 use Rattle.child_ports.specs.KeySet.{Keys}
 use Rattle.child_ports.specs.declared.git.GitRow.{GitRow}
 use Rattle.object_frames.specs.Fetched.{IsGenuine, IsOfId}
@@ -40,25 +39,25 @@ tree_of limit name root result genuine is = subst (λ (r : Result Object Keyring
 
 -- ---- a key file
 
-blob_part : (id : List ℕ) (blob : Object) → blob.kind ≡ kind.Blob → encode_lower id ≡ encode_lower (object_id blob.kind blob.content)
+blob_part : (id : List ℕ) (blob : Object) → blob.kind ≡ kind.Blob → id ≡ object_id blob.kind blob.content
     → (read : Result KeyPart KeyFail) → part_of blob.content ≡ read → IfOk (key_part read) (IsPartOf id)
-blob_part id blob is digits (Ok part) e =
+blob_part id blob is digest (Ok part) e =
     let holds = part_read blob.content part e in record {
       content = blob.content;
-      digits = digits ∙ ap (λ (k : Kind). encode_lower (object_id k blob.content)) is;
+      digest = digest ∙ ap (λ (k : Kind). object_id k blob.content) is;
       dearmored = holds.0;
       key_file = holds.1;
     }
-blob_part id blob is digits (Err fault) e = tt
+blob_part id blob is digest (Err fault) e = tt
 
-part_of_kind : (k : Kind) (id : List ℕ) (blob : Object) → blob.kind ≡ k → encode_lower id ≡ encode_lower (object_id blob.kind blob.content) → IfOk (part_by_kind k blob) (IsPartOf id)
-part_of_kind kind.Commit id blob is digits = tt
-part_of_kind kind.Tree id blob is digits = tt
-part_of_kind kind.Blob id blob is digits = blob_part id blob is digits (part_of blob.content) refl
-part_of_kind kind.Tag id blob is digits = tt
+part_of_kind : (k : Kind) (id : List ℕ) (blob : Object) → blob.kind ≡ k → id ≡ object_id blob.kind blob.content → IfOk (part_by_kind k blob) (IsPartOf id)
+part_of_kind kind.Commit id blob is digest = tt
+part_of_kind kind.Tree id blob is digest = tt
+part_of_kind kind.Blob id blob is digest = blob_part id blob is digest (part_of blob.content) refl
+part_of_kind kind.Tag id blob is digest = tt
 
 pub part_of_id : (limit : ℕ) (id : List ℕ) (blob : Object) (part : Result KeyPart FileBad) → IsOfId limit id (Found blob) → part ≡ part_by_kind blob.kind blob → IfOk part (IsPartOf id)
-part_of_id limit id blob part genuine is = subst (λ (p : Result KeyPart FileBad). IfOk p (IsPartOf id)) (sym is) (part_of_kind blob.kind id blob refl genuine.0)
+part_of_id limit id blob part genuine is = subst (λ (p : Result KeyPart FileBad). IfOk p (IsPartOf id)) (sym is) (part_of_kind blob.kind id blob refl genuine.digest)
 
 -- ---- the files, one after another
 

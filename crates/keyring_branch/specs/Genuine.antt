@@ -1,7 +1,6 @@
 -- What a keyring is whatever git answers: each id is the SHA-1 of what was read for it.
 use Rattle.std.specs.Prelude.{◌≡◌, ℕ, List, [], ◌∷◌, ◌++◌, codes}
 use Rattle.std.specs.FinSet.{union}
-use Rattle.hex.specs.Hex.{encode_lower}
 use Rattle.object_frames.specs.Object.{object_id}
 use Rattle.object_frames.specs.declared.kind.Kind.TheVariants as kind
 use Rattle.object_frames.specs.declared.object.Object.{Object}
@@ -17,10 +16,10 @@ use Rattle.keyring_branch.specs.declared.keyring.Keyring.{Keyring}
 abbrev pub IsTreeOfItsId : Object → Type 0
 IsTreeOfItsId root = (root.kind ≡ kind.Tree) × (root.id ≡ object_id kind.Tree root.content)
 
--- the blob with this id, by its digits, has these packets and keys
+-- the blob with this id has these packets and keys
 pub record IsPartOf (id : List ℕ) (part : KeyPart) : Type 0 where
   pub content : List ℕ
-  pub digits : encode_lower id ≡ encode_lower (object_id kind.Blob content)
+  pub digest : id ≡ object_id kind.Blob content
   pub dearmored : IsDearmored content part.bytes
   pub key_file : IsKeyFile content part.keys
 

@@ -5,13 +5,13 @@ use Rattle.std.proofs.lemmas.Fmt.{digits_decimal, decimal_injective, length-deci
 use Rattle.std.proofs.lemmas.Str.Parse.{numerals_by_value, tells_digits, digit_from_value}
 use Rattle.std.specs.Str.Parse.{AllDigits}
 use Rattle.child_ports.specs.Git.{IsName, NoLineEnd}
-use Rattle.hex.specs.Hex.{encode_lower, decode_of}
-use Rattle.hex.proofs.HexLemmas.{decode_of-encode_lower, decode_of-same}
+use Rattle.hex.specs.Hex.{encode_lower}
 use Rattle.object_frames.specs.declared.kind.Kind.{Kind}
 use Rattle.object_frames.specs.declared.kind.Kind.TheVariants.{Commit, Tree, Blob, Tag}
 use Rattle.object_frames.specs.Object.{type_word}
 use Rattle.object_frames.specs.Id.{IsId}
 use Rattle.object_frames.specs.Frame.{header_line, IsHeaderLine}
+use Rattle.object_frames.proofs.DigestLemmas.{same_id}
 use Rattle.object_frames.proofs.IdLemmas.{length-hex, no_end_hex}
 use Rattle.object_frames.proofs.LineLemmas.{no_end_append, no_end_test, same_line}
 
@@ -132,7 +132,7 @@ same_header i j k l m n p q is js ms ns e =
     let after : after_id k m ≡ after_id l n = sym (rest_part (header_line i k m) i k m is refl) ∙ rest_part (header_line i k m) j l n js both.0 in
     let parts = same_rest k l (decimal m) (decimal n) (ap (drop 1) after) in
     record {
-      id = decode_of-same (encode_lower i) i j (decode_of-encode_lower i is.bytes) (ap decode_of digits ∙ decode_of-encode_lower j js.bytes);
+      id = same_id i j is js digits;
       kind = parts.0;
       size = decimal_injective m n (omega arith) (omega arith) parts.1;
       rest = both.1;

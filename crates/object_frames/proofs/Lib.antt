@@ -1,4 +1,5 @@
 pub mod BufferLemmas
+pub mod DigestLemmas
 pub mod DigitLemmas
 pub mod FrontLemmas
 pub mod HeadLemmas

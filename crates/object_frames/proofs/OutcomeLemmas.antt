@@ -29,6 +29,7 @@ use Rattle.child_ports.specs.Named.{is_full_id}
 use Rattle.object_frames.specs.Fetched.{IsFullId, IsFetched, IsGenuine, IsOfId, is_other_id, object_of, by_body, by_head, fetched_of, Gives}
 use Rattle.object_frames.specs.Faults.{IsFrameFault, IsTaken, IsHeaded, MayBlame, FetchFailsByCount}
 use Rattle.object_frames.specs.Id.{IsId}
+use Rattle.object_frames.proofs.DigestLemmas.{object_is_id, same_id}
 use Rattle.object_frames.proofs.IdLemmas.{length-hex, hex_digits, hex_full}
 use Rattle.object_frames.proofs.ReadingLemmas.{head_is, rest_at, length_at}
 
@@ -340,7 +341,10 @@ genuine_of limit name header content asked fits result is =
 pub given_of_id : (limit : ℕ) (id : List ℕ) → IsId id → (result : Result Fetched FrameFail) → IsGiven limit (encode_lower id) result
     → IfOk result (IsOfId limit id)
 given_of_id limit id is (Ok Missing) h = tt
-given_of_id limit id is (Ok (Found object)) h = (h.asked (full_if (encode_lower id) (hex_full id is)) ∙ ap encode_lower h.digest, h.within)
+given_of_id limit id is (Ok (Found object)) h =
+    let digits : encode_lower id ≡ encode_lower object.id = h.asked (full_if (encode_lower id) (hex_full id is)) in
+    let same : id ≡ object.id = same_id id object.id is (subst IsId (sym h.digest) (object_is_id object.kind object.content)) digits in
+    record { same = sym same; digest = same ∙ h.digest; within = h.within }
 given_of_id limit id is (Err fail) h = tt
 
 -- ---- the function answers neither of the free faults

@@ -11,6 +11,7 @@ use Rattle.object_frames.specs.declared.head.Head.{Head}
 use Rattle.object_frames.specs.declared.head.Head.TheVariants as head
 use Rattle.object_frames.specs.declared.body.Body.{Body}
 use Rattle.object_frames.specs.declared.body.Body.TheVariants as body
+use Rattle.object_frames.specs.declared.object.Object.{Object}
 use Rattle.object_frames.specs.declared.object.Fetched.{Fetched}
 use Rattle.object_frames.specs.declared.object.Fetched.TheVariants.{Missing, Found}
 use Rattle.object_frames.specs.declared.frame_fail.FrameFail.{FrameFail}
@@ -56,10 +57,16 @@ abbrev pub IsGenuine : ℕ → List ℕ → Fetched → Type 0
 IsGenuine limit name Missing = Unit {0}
 IsGenuine limit name (Found object) = HasItsId limit name object.id object.kind object.content
 
--- no object, or one whose kind and content have this id, by its digits, within the limit
+-- The object has this id, which is that of its kind and content, within the limit.
+pub record IsTheObject (limit : ℕ) (id : List ℕ) (object : Object) : Type 0 where
+  pub same : object.id ≡ id
+  pub digest : id ≡ object_id object.kind object.content
+  pub within : length object.content ≤ limit
+
+-- no object, or the one with this id
 abbrev pub IsOfId : ℕ → List ℕ → Fetched → Type 0
 IsOfId limit id Missing = Unit {0}
-IsOfId limit id (Found object) = (encode_lower id ≡ encode_lower (object_id object.kind object.content)) × (length object.content ≤ limit)
+IsOfId limit id (Found object) = IsTheObject limit id object
 
 -- ---- the same as a function, with the faults
 

@@ -1,3 +1,4 @@
 pub mod CallLemmas
+pub mod ConsumeLemmas
 pub mod JoinLemmas
 pub mod TakeLemmas

@@ -2,9 +2,14 @@
 use Rattle.std.specs.Prelude.{ℕ, List, ◌∷◌, ◌++◌, [], Option, Some, None, codes}
 use Rattle.std.specs.Io.KnownBytes.{Appends}
 
--- these bytes, and no others, were put in last
+-- these bytes were put in last. What was put in before isn't said.
 abbrev pub EndsIn : {W : Type 0} → (W → Option (List ℕ)) → W → List ℕ → Type 0
 EndsIn {W} contents now bytes = (before : W) × Appends (contents before) (contents now) bytes
+
+-- the pipe is there before and behind, and these bytes, and no others, went through it between
+abbrev pub PipeTakes : {W : Type 0} → (W → Option (List ℕ)) → Option W → Option W → List ℕ → Type 0
+PipeTakes contents (Some old) (Some new) bytes = Appends (contents old) (contents new) bytes
+PipeTakes contents old new bytes = ⊥
 
 -- the pipe is there, and these bytes went through it last
 abbrev pub PipeEndsIn : {W : Type 0} → (W → Option (List ℕ)) → Option W → List ℕ → Type 0

@@ -1,10 +1,11 @@
 //! A child of git in one directory, and how far its answer was read.
-ghost use Rattle.std.specs.Prelude.{◌≡◌, ◌↔◌, ◌<◌, ℕ, length, Some, IfOk, OnOk, IfSome, IsTrue, string_bytes};
+ghost use Rattle.std.specs.Prelude.{◌≡◌, ◌↔◌, ◌<◌, ℕ, length, take, Some, Ok, IfOk, OnOk, IfSome, IsTrue, false, string_bytes};
 ghost use Rattle.std.specs.Io.{ReadsAtMost};
-ghost use Rattle.std.specs.Io.KnownBytes.{Appends};
-ghost use Rattle.real_ports.specs.Put.{PipeEndsIn, name_line};
+ghost use Rattle.std.specs.Io.Buffered.{reader_remaining};
+ghost use Rattle.std.specs.Io.KnownBytes.{Appends, Consumes};
+ghost use Rattle.real_ports.specs.Put.{PipeTakes, name_line};
 ghost use Rattle.real_ports.specs.Rest.{MayAskOn, body_after, is_to_come};
-ghost use Rattle.real_ports.specs.ChildGit.{Begins};
+ghost use Rattle.real_ports.specs.ChildGit.{Begins, Follows};
 
 use crate::calls::git_call;
 use crate::header_line::HeaderLine;
@@ -73,6 +74,7 @@ pub fn child_for<R: Processes + AllocGlobal>(
     dir: &str,
 ) -> io::Result<AskedChild<R::Started>>
     ensures ready { IfOk result (λ asked. MayAskOn (string_bytes asked.dir) asked.rest dir.now) }
+    ensures kept { IfSome last (λ asked. MayAskOn (string_bytes asked.dir) asked.rest dir.now → result ≡ Ok asked) }
 {
     match kept(last, dir) {
         Some(asked) => Ok(asked),
@@ -80,18 +82,28 @@ pub fn child_for<R: Processes + AllocGlobal>(
     }
 }
 
-// Writes the line of a name.
+/// The longest line of a name: 1,024 bytes and a line feed.
+const LONGEST: usize = 1025;
+
+// Writes the line of a name in one call, so that its line feed never waits for another. A longer name is none that git is asked.
 fn write_line<W: Write>(pipe: &mut W, name: &[u8]) -> io::Result<()>
     ensures { OnOk result (Appends (W.contents pipe.old) (W.contents pipe.new) (name_line name.now)) }
 {
-    pipe.write_all(name)?;
-    pipe.write_all(b"\n")
+    let len = name.len();
+    if len >= LONGEST {
+        return Err(io::Error::from(ErrorKind::InvalidInput));
+    }
+    let mut line = [0u8; LONGEST];
+    line[..len].copy_from_slice(name);
+    line[len..len + 1].copy_from_slice(b"\n");
+    pipe.write_all(&line[..len + 1])
 }
 
 // Reads at least one byte. The end is an error.
 fn read_some<O: Read>(output: &mut O, buf: &mut [u8]) -> io::Result<usize>
     ensures bound { ReadsAtMost result buf.new }
     ensures some { IfOk result (λ n. 0 < n) }
+    ensures told { IfOk result (λ n. Consumes (O.remaining output.old) (O.remaining output.new) (take n buf.new)) }
 {
     for _ in 0..u64::MAX {
         match output.read(buf) {
@@ -112,27 +124,30 @@ impl<P: OpenProcess + Drop> AskedChild<P> {
         self.rest == Rest::Nothing && self.dir.as_str() == dir
     }
 
-    /// Writes a name to the child, of whose last answer nothing is left.
+    /// Writes a name to the child, of whose last answer nothing is left. Whether it could be put or not, its answer is to come.
     pub fn write_name(&mut self, name: &[u8]) -> io::Result<()>
         requires { self.old.rest ≡ Rest.Nothing }
         ensures dir { self.new.dir ≡ self.old.dir }
-        ensures rest { OnOk result (self.new.rest ≡ Rest.Header) }
-        ensures header { OnOk result (Begins self.new.header name.now) }
-        ensures written { OnOk result (PipeEndsIn P.Stdin.contents self.new.running.child.stdin (name_line name.now)) }
+        ensures output { self.new.output ≡ self.old.output }
+        ensures rest { self.new.rest ≡ Rest.Header }
+        ensures header { Begins self.new.header name.now }
+        ensures written { OnOk result (PipeTakes P.Stdin.contents self.old.running.child.stdin self.new.running.child.stdin (name_line name.now)) }
     {
+        self.rest = Rest::Header;
+        self.header.begin(name);
         let Some(input) = self.running.child.stdin.as_mut() else {
             return Err(io::Error::from(ErrorKind::BrokenPipe));
         };
-        write_line(input, name)?;
-        self.rest = Rest::Header;
-        self.header.begin(name);
-        Ok(())
+        write_line(input, name)
     }
 
     // Reads what is left of the header line, and maybe more.
     fn read_header_part(&mut self, buf: &mut [u8]) -> io::Result<usize>
         ensures bound { ReadsAtMost result buf.new }
         ensures some { IfOk result (λ n. 0 < n) }
+        ensures dir { self.new.dir ≡ self.old.dir }
+        ensures told { IfOk result (λ n. Consumes (reader_remaining P.Stdout.remaining self.old.output) (reader_remaining P.Stdout.remaining self.new.output) (take n buf.new)) }
+        ensures follows { IfOk result (λ n. Follows self.old.header self.new.header buf.new n self.new.rest) }
     {
         let count = read_some(&mut self.output, buf)?;
         let (used, rest) = self.header.follow(&buf[..count]);
@@ -144,6 +159,8 @@ impl<P: OpenProcess + Drop> AskedChild<P> {
     fn read_body_part(&mut self, left: u64, buf: &mut [u8]) -> io::Result<usize>
         ensures bound { ReadsAtMost result buf.new }
         ensures some { IfOk result (λ n. 0 < n) }
+        ensures told { IfOk result (λ n. Consumes (reader_remaining P.Stdout.remaining self.old.output) (reader_remaining P.Stdout.remaining self.new.output) (take n buf.new)) }
+        ensures dir { self.new.dir ≡ self.old.dir }
         ensures rest { IfOk result (λ n. self.new.rest ≡ body_after left n) }
     {
         let most = u64::min(left, buf.len() as u64) as usize;
@@ -156,6 +173,10 @@ impl<P: OpenProcess + Drop> AskedChild<P> {
     pub fn read(&mut self, buf: &mut [u8]) -> io::Result<usize>
         ensures bound { ReadsAtMost result buf.new }
         ensures some { IfOk result (λ n. 0 < length buf.old → IsTrue (is_to_come self.old.rest) → 0 < n) }
+        ensures told { IfOk result (λ n. Consumes (reader_remaining P.Stdout.remaining self.old.output) (reader_remaining P.Stdout.remaining self.new.output) (take n buf.new)) }
+        ensures idle { IfOk result (λ n. is_to_come self.old.rest ≡ false → (n ≡ 0) × (self.new.rest ≡ self.old.rest)) }
+        ensures dir { self.new.dir ≡ self.old.dir }
+        ensures header { IfOk result (λ n. 0 < length buf.old → self.old.rest ≡ Rest.Header → Follows self.old.header self.new.header buf.new n self.new.rest) }
         ensures body { IfOk result (λ n. (left : ℕ) → 0 < length buf.old → self.old.rest ≡ Rest.Body left → self.new.rest ≡ body_after left n) }
     {
         if buf.is_empty() {

@@ -1,6 +1,9 @@
 //! A child `gpgv`, started for each question.
-ghost use Rattle.std.specs.Prelude.{[], false};
+ghost use Rattle.std.specs.Prelude.{◌≡◌, [], true, false, codes, Err, IfOk, OnOk, OnErr, IsSomeAnd, string_bytes};
+ghost use Rattle.std.specs.Path.{IsAbsoluteOf, path_buf_bytes};
+ghost use Rattle.child_ports.specs.Causes.{PortFailsByCount, one_more};
 ghost use Rattle.real_ports.specs.ChildSig.{bytes_of};
+ghost use Rattle.real_ports.specs.Put.{file_in};
 
 use crate::counting::counted;
 use crate::gpgv_answer::ask_gpgv;
@@ -9,6 +12,8 @@ use crate::locking::take_lock;
 use child_ports::{Bytes, PortFail, SigPort};
 use std::alloc::{AllocError, Global};
 use std::fs::File;
+use std::io;
+use std::io::ErrorKind;
 use std::process::Processes;
 use std::rt::{Env, Files};
 
@@ -23,13 +28,17 @@ pub struct ChildSig<R: Processes + Files<File = File> + Env + AllocGlobal + Drop
     work: String,
     lock: Option<File>,
     keyring: Option<KeyringFile<File>>,
+    // whether the file in the folder holds the keyring that was loaded last
+    stands: bool,
     asked: u64,
     faults: u64,
 }
 
 impl<R: Processes + Files<File = File> + Env + AllocGlobal + Drop> ChildSig<R> {
     /// gpgv by this program, with its files below this root. No file is made yet.
-    pub fn new(rt: R, program: &str, root: &str) -> Result<ChildSig<R>, AllocError> {
+    pub fn new(rt: R, program: &str, root: &str) -> Result<ChildSig<R>, AllocError>
+        ensures unloaded { IfOk result (λ sig. sig.stands ≡ false) }
+    {
         let program = String::from_str(rt.alloc(), program)?;
         let work = format!(in rt.alloc(); "{root}/work")?;
         Ok(ChildSig {
@@ -38,6 +47,7 @@ impl<R: Processes + Files<File = File> + Env + AllocGlobal + Drop> ChildSig<R> {
             work,
             lock: None,
             keyring: None,
+            stands: false,
             asked: 0,
             faults: 0,
         })
@@ -55,7 +65,17 @@ impl<R: Processes + Files<File = File> + Env + AllocGlobal + Drop> SigPort for C
 
     ghost asked = { λ sig. sig.asked };
 
-    fn load(&mut self, keyring: &[u8]) -> Result<(), PortFail> {
+    // A keyring whose load failed may stand half written: nothing is asked under it.
+    fn load(&mut self, keyring: &[u8]) -> Result<(), PortFail>
+        ensures ok { OnOk result (bytes_of self.new.keyring ≡ keyring.now) }
+        ensures err { OnErr result (self.new.keyring ≡ self.old.keyring) }
+        ensures asked { self.new.asked ≡ self.old.asked }
+        ensures cause { PortFailsByCount self.old.faults self.new.faults result }
+        ensures path { OnOk result (IsSomeAnd self.new.keyring (λ file. IsAbsoluteOf (file_in (string_bytes self.old.work) (codes "keyring")) (path_buf_bytes file.put.path))) }
+        ensures stands { OnOk result (self.new.stands ≡ true) }
+        ensures falls { OnErr result (self.new.stands ≡ false) }
+    {
+        self.stands = false;
         let Ok(copy) = Bytes::from_slice(self.rt.alloc(), keyring) else {
             return Err(PortFail::Memory);
         };
@@ -67,6 +87,7 @@ impl<R: Processes + Files<File = File> + Env + AllocGlobal + Drop> SigPort for C
         }
         let file = put_keyring(&self.rt, self.work.as_str(), copy);
         self.keyring = Some(counted(file, &mut self.faults)?);
+        self.stands = true;
         Ok(())
     }
 
@@ -75,8 +96,18 @@ impl<R: Processes + Files<File = File> + Env + AllocGlobal + Drop> SigPort for C
         _alloc: Global,
         signature: &[u8],
         payload: &[u8],
-    ) -> Result<Bytes, PortFail> {
+    ) -> Result<Bytes, PortFail>
+        ensures loaded { self.new.keyring ≡ self.old.keyring }
+        ensures stands { self.new.stands ≡ self.old.stands }
+        ensures asked { self.new.asked ≡ one_more self.old.asked }
+        ensures cause { PortFailsByCount self.old.faults self.new.faults result }
+        ensures unloaded { self.old.stands ≡ false → result ≡ Err PortFail.Failed }
+    {
         self.asked = self.asked.saturating_add(1);
+        if !self.stands {
+            let unasked = Err(io::Error::from(ErrorKind::NotFound));
+            return counted(unasked, &mut self.faults);
+        }
         let answer = ask_gpgv(
             &self.rt,
             self.program.as_str(),

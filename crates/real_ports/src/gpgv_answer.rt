@@ -1,5 +1,6 @@
 //! What gpgv is asked, and its answer.
-ghost use Rattle.std.specs.Prelude.{◌≡◌, ◌≤◌, length, IfOk, IfSome};
+ghost use Rattle.std.specs.Prelude.{◌≡◌, ◌≤◌, length, IfOk, IfSome, IsNone, IsSomeAnd, IsErrAnd};
+ghost use Rattle.std.specs.IoError.{error_kind};
 ghost use Rattle.std.specs.Path.{path_buf_bytes};
 ghost use Rattle.std.specs.Process.{command_program, command_args};
 ghost use Rattle.real_ports.specs.Calls.{gpgv_words, SetsGpgvVars};
@@ -48,6 +49,18 @@ fn whole_output<O: Read + Drop>(alloc: Global, output: O) -> io::Result<Vec<u8>>
     Ok(answer)
 }
 
+// The answer that comes through a child's output. Without one there is no answer, not an empty one.
+fn answer_of<O: Read + Drop>(alloc: Global, output: Option<O>) -> io::Result<Vec<u8>>
+    ensures unheard { IsNone output → IsErrAnd result (λ e. error_kind e ≡ ErrorKind.BrokenPipe) }
+    ensures whole { IfOk result (λ answer. IsSomeAnd output (λ pipe. IfSome (O.remaining pipe) (λ bytes. answer.items ≡ bytes))) }
+    ensures limit { IfOk result (λ answer. length answer.items ≤ 65536) }
+{
+    match output {
+        Some(output) => whole_output(alloc, output),
+        None => Err(io::Error::from(ErrorKind::BrokenPipe)),
+    }
+}
+
 /// Asks gpgv what a signature on a payload is worth, and gives its status output.
 pub fn ask_gpgv<R: Processes + Files + Env + AllocGlobal>(
     rt: &R,
@@ -65,8 +78,5 @@ pub fn ask_gpgv<R: Processes + Files + Env + AllocGlobal>(
         .stderr(Stdio::null())
         .spawn(rt)?;
     let mut running = RunningChild { child };
-    match running.child.stdout.take() {
-        Some(output) => whole_output(rt.alloc(), output),
-        None => Ok(Vec::new(rt.alloc())),
-    }
+    answer_of(rt.alloc(), running.child.stdout.take())
 }

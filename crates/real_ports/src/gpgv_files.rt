@@ -107,6 +107,8 @@ pub fn put_question<R: Files + Env + AllocGlobal>(
     payload: &[u8],
 ) -> io::Result<Question<R::File>>
     ensures keyring { IfOk result (λ asked. IsAbsoluteOf (file_in work.now (codes "keyring")) (path_buf_bytes asked.keyring)) }
+    ensures signature_path { IfOk result (λ asked. IsAbsoluteOf (file_in work.now (codes "signature")) (path_buf_bytes asked.signature.path)) }
+    ensures payload_path { IfOk result (λ asked. IsAbsoluteOf (file_in work.now (codes "payload")) (path_buf_bytes asked.payload.path)) }
     ensures signature { IfOk result (λ asked. EndsIn R.File.contents asked.signature.file signature.now) }
     ensures payload { IfOk result (λ asked. EndsIn R.File.contents asked.payload.file payload.now) }
 {

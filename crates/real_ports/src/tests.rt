@@ -1,6 +1,6 @@
 //! Calls on the real outside: files in the folder of the run, and a program that ends at once.
 use crate::{ChildGit, ChildSig, RealRoom, StdSink};
-use child_ports::{Failed, FileRoom, GitPort, SigPort, Sink};
+use child_ports::{Failed, FileRoom, GitPort, PortFail, SigPort, Sink};
 use std::io::Write;
 use std::rt::Files;
 use std::test::Fail;
@@ -49,6 +49,27 @@ fn a_program_that_ends_at_once_fails_as_git_and_gives_no_verdict(
         .verify(rt.alloc(), b"signature", b"payload")
         .map_err(|_| "gpgv wasn't asked")?;
     assert_eq!(rt; verdict.len(), 0);
+    Ok(())
+}
+
+#[test]
+fn a_shorter_keyring_leaves_nothing_of_a_longer_one(rt: HostRuntime) -> Result<(), Fail> {
+    let mut gpgv = ChildSig::new(rt, "/bin/false", "root")?;
+    for keyring in ["a long keyring".as_bytes(), "a short one".as_bytes()] {
+        gpgv.load(keyring).map_err(|_| "no keyring was loaded")?;
+        let file = RealRoom::new(rt)
+            .read(rt.alloc(), "root/work/keyring")
+            .map_err(|_| "the read failed")?;
+        assert!(rt; file.is_some_and(|bytes| bytes.as_slice() == keyring));
+    }
+    Ok(())
+}
+
+#[test]
+fn before_a_keyring_is_loaded_a_question_fails(rt: HostRuntime) -> Result<(), Fail> {
+    let mut gpgv = ChildSig::new(rt, "/bin/false", "root")?;
+    let verdict = gpgv.verify(rt.alloc(), b"signature", b"payload");
+    assert!(rt; matches!(&verdict, Err(PortFail::Failed)));
     Ok(())
 }
 

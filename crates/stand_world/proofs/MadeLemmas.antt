@@ -10,6 +10,7 @@ use Rattle.object_frames.specs.Id.{IsId}
 use Rattle.object_frames.specs.declared.kind.Kind.{Kind}
 use Rattle.object_frames.specs.declared.kind.Kind.TheVariants as kind
 use Rattle.object_frames.proofs.IdLemmas.{no_end_hex}
+use Rattle.object_frames.proofs.DigestLemmas.{digest_id}
 use Rattle.commit_objects.specs.Form.{sha1_form}
 use Rattle.commit_objects.specs.Lines.{NoLineEnd, IsIdOf, line, continued, Header, IsHeader, header_lines}
 use Rattle.commit_objects.specs.Commit.{heading, spelling, AreParts, IsCommit}
@@ -30,7 +31,7 @@ use Rattle.stand_world.specs.declared.files.Listed.{Listed}
 use Rattle.stand_world.specs.declared.framed.Framed.{Framed}
 use Rattle.stand_world.specs.declared.toy.Toy.{Toy}
 use Rattle.stand_world.proofs.NumberLemmas.{no_end_decimal, below_or_not}
-use Rattle.stand_world.proofs.ObjectLemmas.{digest_id, framed_id}
+use Rattle.stand_world.proofs.ObjectLemmas.{framed_id}
 use Rattle.stand_world.proofs.ToyLemmas.{glyph_no_end, key_line, hash_line, digest_line, lines_text, lines_of_toy}
 
 -- ---- objects

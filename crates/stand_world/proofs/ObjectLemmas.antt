@@ -1,11 +1,8 @@
 -- Objects as git answers with them, under names without blanks.
-use Rattle.std.proofs.Common.{◌≡◌, inl, inr, ℕ, zero, suc, ◌*◌, false, eqb, List, [], ◌∷◌, ◌++◌, length, get_or, refl, sym, ap, ◌∙◌, arith, append_assoc, length-append, decimal, codes}
-use Rattle.std.specs.Prelude.{slice_index}
-use Rattle.std.specs.Int.{w32, to_be_bytes}
+use Rattle.std.proofs.Common.{◌≡◌, inl, inr, ℕ, false, eqb, List, [], ◌∷◌, ◌++◌, length, get_or, refl, sym, ap, ◌∙◌, arith, append_assoc, length-append, decimal, codes}
 use Rattle.std.proofs.lemmas.Bool.{false≢true}
 use Rattle.std.proofs.lemmas.List.Sums.{AllPass-from_list_all}
-use Rattle.hex.specs.Hex.{IsBytes, encode_lower}
-use Rattle.sha1.specs.Sha1.{sha1, digest_bytes, hash_after}
+use Rattle.hex.specs.Hex.{encode_lower}
 use Rattle.byte_cuts.specs.Cuts.{Lacks}
 use Rattle.child_ports.specs.Framed.{IsTypeWord, is_lower_hex_digit, IsObjectFrame, IsFrame, IsFramed, object_frame}
 use Rattle.child_ports.proofs.HeaderLemmas.{cut_same, lacks_hex, lacks_word, header_parts, frame_more}
@@ -13,44 +10,10 @@ use Rattle.object_frames.specs.Id.{IsId}
 use Rattle.object_frames.specs.Object.{type_word, object_id}
 use Rattle.object_frames.specs.declared.kind.Kind.{Kind}
 use Rattle.object_frames.specs.declared.kind.Kind.TheVariants.{Commit, Tree, Blob, Tag}
+use Rattle.object_frames.proofs.DigestLemmas.{object_is_id}
 use Rattle.object_frames.proofs.IdLemmas.{hex_digits}
 use Rattle.stand_world.specs.Objects.{framed}
 use Rattle.stand_world.proofs.NumberLemmas.{no_end_decimal, same_small}
-
--- ---- ids
-
-word_bytes : (n : ℕ) → IsBytes (to_be_bytes w32 n)
-word_bytes n zero = omega arith
-word_bytes n (suc zero) = omega arith
-word_bytes n (suc (suc zero)) = omega arith
-word_bytes n (suc (suc (suc zero))) = omega arith
-word_bytes n (suc (suc (suc (suc i)))) = omega arith
-
-bytes_append : (xs ys : List ℕ) → IsBytes xs → IsBytes ys → IsBytes (xs ++ ys)
-bytes_append [] ys h k = k
-bytes_append (x ∷ xs) ys h k = more (bytes_append xs ys (λ j. h (suc j)) k)
-  where
-    more : IsBytes (xs ++ ys) → IsBytes (x ∷ (xs ++ ys))
-    more rest zero = h 0
-    more rest (suc i) = rest i
-
-no_bytes : IsBytes []
-no_bytes i = omega arith
-
-digest_is : (hash : List ℕ) (n : ℕ) → (length (digest_bytes hash n) ≡ n * 4) × IsBytes (digest_bytes hash n)
-unfolding digest_bytes
-digest_is hash zero = (refl, no_bytes)
-digest_is hash (suc n) =
-    let before = digest_is hash n in
-    (omega (arith, length-append (digest_bytes hash n) (to_be_bytes w32 (slice_index hash n)), before.0), bytes_append (digest_bytes hash n) (to_be_bytes w32 (slice_index hash n)) before.1 (word_bytes (slice_index hash n)))
-
--- a digest has 20 bytes
-pub digest_id : (message : List ℕ) → IsId (sha1 message)
-unfolding sha1
-digest_id message = let is = digest_is (hash_after _ _) 5 in record { count = is.0; bytes = is.1 }
-
-pub object_is_id : (kind : Kind) (content : List ℕ) → IsId (object_id kind content)
-object_is_id kind content = digest_id _
 
 -- ---- whole answers
 

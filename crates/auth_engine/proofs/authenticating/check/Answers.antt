@@ -10,7 +10,7 @@ use Rattle.auth_engine.specs.declared.task.Verdict.{Verdict}
 use Rattle.auth_engine.specs.declared.engine_fail.EngineFail.{EngineFail}
 use Rattle.auth_engine.specs.Answers.{OnFinding}
 use Rattle.auth_engine.specs.Asked.{AsksFor}
-use Rattle.auth_engine.specs.Outcome.{IsFinding, IsOutcome, IsVerdict}
+use Rattle.auth_engine.specs.Outcome.{IsFinding, IsOutcome, IsJudgedVerdict}
 use Rattle.auth_engine.specs.SoundCache.{IsSoundEntry}
 use Rattle.auth_engine.specs.Starting.{scope_of, world_in, entries_of, cached_of}
 use Rattle.auth_engine.proofs.AskedLemmas.{finding_asks}
@@ -107,6 +107,6 @@ returns-clause-verdict g c = λ git sig keeper.
     (subst (λ (dir : List ℕ). IsHistoryAnswer (world_of (g.G.GitPort.table c.find_start.new.git) dir sigs start.ring.bytes) start.target task.intro (Ok graph)) c.as_str-2.ensures elsewhere) in
     let later = subst IsTrue (sym c.read_history.ensures.told) told in
     let verdict = subst (λ (answers : List GitRow). IsWhole (world_in answers sigs task start.ring) start.target task.intro → HoldsHistory (world_in answers sigs task start.ring) start.target task.intro graph
-    → IfOk result (IsVerdict (world_in answers sigs task start.ring) task start entries))
+    → IfOk result (IsJudgedVerdict (world_in answers sigs task start.ring) task start entries))
     (c.read_history.ensures.table ∙ c.in_ok-start.ensures.table) (c.decide.ensures.verdict later sig) history.0 history.1 in
     verdict_over rows sigs task (map.get kept task.cache_key) start entries result begins cached verdict

@@ -1,4 +1,4 @@
-use Rattle.std.proofs.Common.{inl, inr, ℕ, List, sym, refl, subst}
+use Rattle.std.proofs.Common.{inl, inr, ℕ, List, sym, refl, subst, arith}
 use Rattle.std.specs.Prelude.{IsTrue, IsOk, Result}
 use Rattle.child_ports.specs.KeySet.{Keys}
 use Rattle.auth_report.specs.declared.files.FileFail.{FileFail}
@@ -101,3 +101,6 @@ returns-in-Err-clause-puts g c = λ git gpgv keeper after room.
 pub returns-in-Err-clause-stores : goal.returns-in-Err-clause-stores
 returns-in-Err-clause-stores g c = λ git gpgv keeper room.
     no_stores (outside (g.G.GitPort.table c.args.git.now) (g.V.SigPort.table c.args.gpgv.now) (g.K.Keeper.kept c.args.keeper.now)) (g.R.FileRoom.files c.args.room.now) c.args.plan.now c.in-Err.status (g.K.Keeper.stores c.args.keeper.now) (g.K.Keeper.stores c.args.keeper.now) refl (told_no_zero c.in-Err.status c.in-Err.ensures.status)
+
+pub returns-in-Err-clause-named : goal.returns-in-Err-clause-named
+returns-in-Err-clause-named g c = (omega arith, omega arith)

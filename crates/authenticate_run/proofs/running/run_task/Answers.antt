@@ -1,7 +1,8 @@
-use Rattle.std.proofs.Common.{inl, inr, ◌∙◌, ℕ, Ok, Err, refl, sym, ap, subst}
+use Rattle.std.proofs.Common.{inl, inr, ◌∙◌, ℕ, ◌+◌, length, Ok, Err, refl, sym, ap, subst, arith}
 use Rattle.std.specs.Prelude.{IsTrue, IsOk, ◌↔◌}
 use Rattle.std.specs.FinMap as map
 use Rattle.child_ports.specs.Keeper.{Kept}
+use Rattle.child_ports.specs.Named.{NamedAtMost}
 use Rattle.auth_engine.specs.declared.task.Task.{Task}
 use Rattle.auth_engine.specs.declared.task.Verdict.{Verdict}
 use Rattle.auth_engine.specs.declared.engine_fail.EngineFail.{EngineFail}
@@ -42,7 +43,7 @@ returns-in_default-clause-complete g c = λ git gpgv keeper sound has. memory_co
 pub returns-in_default-clause-asked : goal.returns-in_default-clause-asked
 returns-in_default-clause-asked g c = λ git gpgv keeper. (
   Err Memory,
-  λ sound. tt,
+  (λ sound. tt, tt),
   stop_asks (g.G.GitPort.table c.args.git.now) (g.V.SigPort.table c.args.gpgv.now) (task_for c.args.plan.now c.args.historical) _ _ _ Memory tt refl,
   c.tell_refusal.ensures.status,
 )
@@ -99,8 +100,11 @@ returns-clause-asked g c = λ git gpgv keeper.
     let kept = g.K.Keeper.kept c.args.keeper.now in
     let fail = c.in-Err.fail in (
       Err fail,
-      subst (λ (task : Task). IsSoundOrNone rows sigs task (map.get kept task.cache_key) → OnFinding {T = Verdict} (Err fail) (IsOutcome rows sigs task (map.get kept task.cache_key) (Err fail))) c.in-Ok.ensures.task
-          (c.in-Err.ensures.outcome git gpgv keeper),
+      (
+        subst (λ (task : Task). IsSoundOrNone rows sigs task (map.get kept task.cache_key) → OnFinding {T = Verdict} (Err fail) (IsOutcome rows sigs task (map.get kept task.cache_key) (Err fail))) c.in-Ok.ensures.task
+            (c.in-Err.ensures.outcome git gpgv keeper),
+        tt,
+      ),
       subst (λ (task : Task). Asks rows sigs task (map.get kept task.cache_key) (Err fail) (g.V.SigPort.asked c.args.gpgv.now) (g.V.SigPort.asked c.authenticate.new.sig)) c.in-Ok.ensures.task (c.in-Err.ensures.asked git gpgv keeper),
       c.tell_refusal-in-Err.ensures.status,
     )
@@ -188,8 +192,11 @@ returns-in-Ok-authenticate-clause-asked g c = λ git gpgv keeper.
     let kept = g.K.Keeper.kept c.args.keeper.now in
     let verdict = c.in-Ok-authenticate.verdict in (
       Ok verdict,
-      subst (λ (task : Task). IsSoundOrNone rows sigs task (map.get kept task.cache_key) → IsOutcome rows sigs task (map.get kept task.cache_key) (Ok verdict)) c.in-Ok.ensures.task
-          (c.in-Ok-authenticate.ensures.outcome git gpgv keeper),
+      (
+        subst (λ (task : Task). IsSoundOrNone rows sigs task (map.get kept task.cache_key) → IsOutcome rows sigs task (map.get kept task.cache_key) (Ok verdict)) c.in-Ok.ensures.task
+            (c.in-Ok-authenticate.ensures.outcome git gpgv keeper),
+        subst (λ (task : Task). IsVerdictOver rows sigs task (map.get kept task.cache_key) verdict) c.in-Ok.ensures.task (c.in-Ok-authenticate.ensures.verdict git gpgv keeper),
+      ),
       subst (λ (task : Task). Asks rows sigs task (map.get kept task.cache_key) (Ok verdict) (g.V.SigPort.asked c.args.gpgv.now) (g.V.SigPort.asked c.authenticate.new.sig)) c.in-Ok.ensures.task (c.in-Ok-authenticate.ensures.asked git gpgv keeper),
       c.finish_task.ensures.status,
     )
@@ -217,3 +224,14 @@ returns-in-Ok-authenticate-clause-stores g c = λ git gpgv keeper.
     let over = subst (λ (task : Task). IsVerdictOver rows sigs task (map.get kept task.cache_key) verdict) c.in-Ok.ensures.task
     (c.in-Ok-authenticate.ensures.verdict git gpgv keeper) in
     ended_stored (outside rows sigs kept) c.args.plan.now c.args.historical c.finish_task.result (g.K.Keeper.stores c.args.keeper.now) (g.K.Keeper.stores c.authenticate.new.keeper) (g.K.Keeper.stores c.finish_task.new.keeper) verdict over c.in-Ok-authenticate.ensures.stores c.finish_task.ensures.stores
+
+-- ---- the names that were asked
+
+pub returns-in_default-clause-named : goal.returns-in_default-clause-named
+returns-in_default-clause-named g c = (omega arith, omega arith)
+
+pub returns-clause-named : goal.returns-clause-named
+returns-clause-named g c = subst (λ (task : Task). NamedAtMost (length task.target + length task.keyring) (g.G.GitPort.named c.args.git.now) (g.G.GitPort.named c.authenticate.new.git)) c.in-Ok.ensures.task c.in-Err.ensures.named
+
+pub returns-in-Ok-authenticate-clause-named : goal.returns-in-Ok-authenticate-clause-named
+returns-in-Ok-authenticate-clause-named g c = subst (λ (task : Task). NamedAtMost (length task.target + length task.keyring) (g.G.GitPort.named c.args.git.now) (g.G.GitPort.named c.authenticate.new.git)) c.in-Ok.ensures.task c.in-Ok-authenticate.ensures.named

@@ -30,7 +30,7 @@ loop-i-init g c = record {
   fit = subst (λ (w : Walk). All IsFit w.list) (sym c.in-Ok.ensures) c.requires.fits.channels.each;
   walked = λ git sig keeper sound.
       none_walked (outside (g.G.GitPort.table c.args.git.now) (g.V.SigPort.table c.args.sig.now) (g.K.Keeper.kept c.args.keeper.now)) c.args.set.now c.in-Ok.walk c.in-Ok.ensures c.requires.fits.channels.count;
-  gone = λ git sig keeper. none_gone (outside (g.G.GitPort.table c.args.git.now) (g.V.SigPort.table c.args.sig.now) (g.K.Keeper.kept c.args.keeper.now)) c.args.set.now c.in-Ok.walk (g.V.SigPort.asked c.args.sig.now) c.in-Ok.ensures;
+  gone = λ git sig keeper. none_gone (outside (g.G.GitPort.table c.args.git.now) (g.V.SigPort.table c.args.sig.now) (g.K.Keeper.kept c.args.keeper.now)) c.args.set.now c.in-Ok.walk (g.V.SigPort.asked c.args.sig.now) c.in-Ok.ensures c.requires.fits.channels.count;
 }
 
 pub loop-i-preserved : goal.loop-i-preserved
@@ -91,7 +91,7 @@ returns-in_err-walk-clause-asked g c =
     inr (gone_stops o c.args.set.now c.loop-i.i c.loop-i.walk fail (g.V.SigPort.asked c.args.sig.now) (g.V.SigPort.asked c.loop-i.sig) (g.V.SigPort.asked c.take_next.new.sig) (inv.gone git sig keeper) next))
 
 pub returns-in_default-clause-asked : goal.returns-in_default-clause-asked
-returns-in_default-clause-asked g c = λ git sig keeper. inl refl
+returns-in_default-clause-asked g c = λ git sig keeper. inl (refl, refl)
 
 pub returns-clause-asked : goal.returns-clause-asked
 returns-clause-asked g c = λ git sig keeper.

@@ -144,7 +144,7 @@ pub returns-in_default-clause-stores : goal.returns-in_default-clause-stores
 returns-in_default-clause-stores g c = λ git gpgv keeper. inl (refl, (told_status Memory c.tell_set_refusal.result tt c.tell_set_refusal.ensures.status).0)
 
 pub returns-in_default-clause-asked : goal.returns-in_default-clause-asked
-returns-in_default-clause-asked g c = λ git gpgv keeper. (Err Memory, λ sound. tt, inl refl, c.tell_set_refusal.ensures.status)
+returns-in_default-clause-asked g c = λ git gpgv keeper. (Err Memory, λ sound. tt, inl (refl, refl), c.tell_set_refusal.ensures.status)
 
 pub returns-clause-puts : goal.returns-clause-puts
 returns-clause-puts g c = λ git gpgv keeper after. inl c.in-Err.ensures.kept
