@@ -64,72 +64,91 @@ fn resolve_two(
     Ok(resolve(alloc, git, "clones/main", &names))
 }
 
+// Two names, and the commit that they stand for.
+static NAMES: [(&str, &str, &str); 3] = [
+    ("nope^{commit}", "master^{commit}", "c"),
+    ("master^{commit}", "nope^{commit}", "c"),
+    ("HEAD^{commit}", "master^{commit}", "x"),
+];
+
 #[test]
 fn the_first_name_that_is_not_missing_counts(rt: HostRuntime) -> Result<(), Fail> {
     let alloc = rt.alloc();
     let world = world_of(&rt, alloc);
     let mut git = git_of(&rt, alloc, &world)?;
-    for (first, second, want) in [
-        ("nope^{commit}", "master^{commit}", "c"),
-        ("master^{commit}", "nope^{commit}", "c"),
-        ("HEAD^{commit}", "master^{commit}", "x"),
-    ] {
-        match resolve_two(&rt, alloc, &mut git, first.as_bytes(), second.as_bytes())? {
-            Ok(id) => assert_eq!(rt; id, id_of(&rt, &world, want), "at {first}"),
-            Err(fail) => panic!(rt; "{first}: {fail:?}"),
-        }
+    for (first, second, want) in &NAMES {
+        let want = id_of(&rt, &world, want);
+        let found = resolve_two(&rt, alloc, &mut git, first.as_bytes(), second.as_bytes())?;
+        assert!(rt; matches!(&found, Ok(id) if *id == want), "at {first}");
     }
-    match resolve_two(&rt, alloc, &mut git, b"nope^{commit}", b"no^{commit}")? {
-        Err(
-            EngineFail::Name {
-                which: Which::Target,
-                what: What::Missing,
-            },
-        ) => Ok(()),
-        other => panic!(rt; "{other:?}"),
-    }
+    Ok(())
 }
+
+#[test]
+fn names_of_nothing_are_missing(rt: HostRuntime) -> Result<(), Fail> {
+    let alloc = rt.alloc();
+    let world = world_of(&rt, alloc);
+    let mut git = git_of(&rt, alloc, &world)?;
+    let found = resolve_two(&rt, alloc, &mut git, b"nope^{commit}", b"no^{commit}")?;
+    assert!(rt;
+        matches!(
+            &found,
+            Err(EngineFail::Name {
+                which: Which::Target,
+                what: What::Missing
+            })
+        )
+    );
+    Ok(())
+}
+
+// Two commits, and how the first stands to the second.
+static RELATIONS: [(&str, &str, Relation); 4] = [
+    ("i", "i", Relation::Same),
+    ("i", "c", Relation::Ancestor),
+    ("c", "i", Relation::Descendant),
+    ("x", "c", Relation::Unrelated),
+];
 
 #[test]
 fn two_commits_stand_by_what_they_reach(rt: HostRuntime) -> Result<(), Fail> {
     let alloc = rt.alloc();
     let world = world_of(&rt, alloc);
     let mut git = git_of(&rt, alloc, &world)?;
-    for (old, new, want) in [
-        ("i", "i", Relation::Same),
-        ("i", "c", Relation::Ancestor),
-        ("c", "i", Relation::Descendant),
-        ("x", "c", Relation::Unrelated),
-    ] {
-        let (from, to) = (id_of(&rt, &world, old), id_of(&rt, &world, new));
-        match relate(alloc, &mut git, "clones/main", from, to) {
-            Ok(relation) => assert_eq!(rt; relation, want, "of {old} and {new}"),
-            Err(fail) => panic!(rt; "{old} and {new}: {fail:?}"),
-        }
+    for (old, new, want) in &RELATIONS {
+        let from = id_of(&rt, &world, old);
+        let to = id_of(&rt, &world, new);
+        let relation = relate(alloc, &mut git, "clones/main", from, to);
+        assert!(rt;
+            matches!(&relation, Ok(found) if *found == *want),
+            "of {old} and {new}"
+        );
     }
     Ok(())
+}
+
+// Whether a commit's root tree has this file, or none of the name.
+fn has_file(alloc: Global, git: &mut MemGit, id: Id, name: &str, want: Option<&str>) -> bool {
+    match (
+        read_file(alloc, git, "clones/main", id, name.as_bytes()),
+        want,
+    ) {
+        (Ok(Some(found)), Some(want)) => found.as_slice() == want.as_bytes(),
+        (Ok(None), None) => true,
+        _ => false,
+    }
 }
 
 #[test]
 fn a_file_is_read_where_the_root_tree_has_it(rt: HostRuntime) -> Result<(), Fail> {
     let alloc = rt.alloc();
     let world = world_of(&rt, alloc);
-    let mut git = git_of(&rt, alloc, &world)?;
-    for (commit, name, want) in [
-        ("i", ".guix-channel", None),
-        ("c", ".guix-channel", Some("(channel (version 0))\n")),
-        ("c", "README", None),
-    ] {
-        let id = id_of(&rt, &world, commit);
-        match read_file(alloc, &mut git, "clones/main", id, name.as_bytes()) {
-            Ok(Some(found)) => assert_eq!(rt;
-                Some(found.as_slice()),
-                want.map(|text| text.as_bytes()),
-                "{name} of {commit}"
-            ),
-            Ok(None) => assert!(rt; want.is_none(), "{name} of {commit}"),
-            Err(fail) => panic!(rt; "{name} of {commit}: {fail:?}"),
-        }
-    }
+    let git = &mut git_of(&rt, alloc, &world)?;
+    let i = id_of(&rt, &world, "i");
+    let c = id_of(&rt, &world, "c");
+    assert!(rt; has_file(alloc, git, i, ".guix-channel", None));
+    let channel = Some("(channel (version 0))\n");
+    assert!(rt; has_file(alloc, git, c, ".guix-channel", channel));
+    assert!(rt; has_file(alloc, git, c, "README", None));
     Ok(())
 }

@@ -63,6 +63,13 @@ fn id_of(rt: &impl Abort, world: &World, name: &str) -> Id {
     }
 }
 
+fn push_git_rows(alloc: Global, rows: &mut GitRows, world: &World) -> Result<(), AllocError> {
+    for row in world.git_rows(alloc)?.into_vec() {
+        rows.push(row)?;
+    }
+    Ok(())
+}
+
 // The answers of two worlds.
 fn git_over(
     rt: &impl Abort,
@@ -71,24 +78,23 @@ fn git_over(
     second: &World,
 ) -> Result<MemGit, AllocError> {
     let mut rows = GitRows::new(alloc);
-    for row in first.git_rows(alloc)?.into_vec() {
-        rows.push(row)?;
-    }
-    for row in second.git_rows(alloc)?.into_vec() {
-        rows.push(row)?;
-    }
+    push_git_rows(alloc, &mut rows, first)?;
+    push_git_rows(alloc, &mut rows, second)?;
     assert!(rt; rows_fit(&rows));
     MemGit::new(alloc, rows, Numbers::new(alloc), Numbers::new(alloc))
 }
 
+fn push_gpgv_rows(alloc: Global, rows: &mut SigRows, world: &World) -> Result<(), AllocError> {
+    for row in world.sig_rows(alloc)?.into_vec() {
+        rows.push(row)?;
+    }
+    Ok(())
+}
+
 fn gpgv_over(alloc: Global, first: &World, second: &World) -> Result<MemSig, AllocError> {
     let mut rows = SigRows::new(alloc);
-    for row in first.sig_rows(alloc)?.into_vec() {
-        rows.push(row)?;
-    }
-    for row in second.sig_rows(alloc)?.into_vec() {
-        rows.push(row)?;
-    }
+    push_gpgv_rows(alloc, &mut rows, first)?;
+    push_gpgv_rows(alloc, &mut rows, second)?;
     MemSig::new(alloc, rows, Numbers::new(alloc))
 }
 
@@ -96,10 +102,9 @@ fn gpgv_over(alloc: Global, first: &World, second: &World) -> Result<MemSig, All
 fn keeper_with(alloc: Global, key: &str, value: &[u8]) -> Result<MemKeeper, AllocError> {
     let mut pairs = Pairs::new(alloc);
     if !key.is_empty() {
-        pairs.push(Pair {
-            key: text_of(alloc, key)?,
-            value: Bytes::from_slice(alloc, value)?,
-        })?;
+        let key = text_of(alloc, key)?;
+        let value = Bytes::from_slice(alloc, value)?;
+        pairs.push(Pair { key, value })?;
     }
     MemKeeper::new(alloc, &pairs, Numbers::new(alloc))
 }
@@ -303,70 +308,88 @@ fn main_from(
     Ok(line)
 }
 
+const SAME: &str = "main same authentic introduced at https://given.example; stores channels/main";
+
+const FORWARD: &str =
+    "main forward authentic introduced at https://given.example; stores channels/main deployed/main";
+
+const BACKWARD: &str =
+    "main back authentic introduced at https://given.example; stores channels/main deployed/main";
+
+const OTHER: &str =
+    "main unrelated authentic introduced at https://given.example; stores channels/main deployed/main";
+
+const LOST: &str = "main lost authentic introduced at https://given.example; stores deployed/main";
+
+// The deployed commit, the target, whether going back is allowed, and what is shown.
+static MOVES: [(&str, &str, bool, &str); 6] = [
+    ("c", "c", false, SAME),
+    ("c", "d", false, FORWARD),
+    ("d", "c", false, "downgrade"),
+    ("d", "c", true, BACKWARD),
+    ("x", "d", false, "unrelated move"),
+    ("x", "d", true, OTHER),
+];
+
 #[test]
 fn a_move_is_judged_by_how_the_deployed_commit_stands_to_the_target(
     rt: HostRuntime,
 ) -> Result<(), Fail> {
     let alloc = rt.alloc();
     let world = world_of(&rt, alloc, FORKED, "clones/main");
-    let same = "main same authentic introduced at https://given.example; stores channels/main";
-    let forward =
-        "main forward authentic introduced at https://given.example; stores channels/main deployed/main";
-    let back =
-        "main back authentic introduced at https://given.example; stores channels/main deployed/main";
-    let other =
-        "main unrelated authentic introduced at https://given.example; stores channels/main deployed/main";
-    // the deployed commit, the target, whether going back is allowed, and what is shown
-    for (old, new, allowed, want) in [
-        ("c", "c", false, same),
-        ("c", "d", false, forward),
-        ("d", "c", false, "downgrade"),
-        ("d", "c", true, back),
-        ("x", "d", false, "unrelated move"),
-        ("x", "d", true, other),
-    ] {
+    for (old, new, allowed, want) in &MOVES {
         let record = record_of(alloc, id_of(&rt, &world, old))?;
-        let new_id = id_of(&rt, &world, new);
-        let line = main_from(&rt, alloc, &world, record.as_slice(), new_id, allowed)?;
-        assert_eq!(rt; line.as_str(), want, "from {old} to {new}");
+        let target = id_of(&rt, &world, new);
+        let line = main_from(&rt, alloc, &world, record.as_slice(), target, *allowed)?;
+        assert!(rt; line.as_str() == *want, "from {old} to {new}");
     }
     Ok(())
 }
+
+const ZEROS: &str = "0000000000000000000000000000000000000000\n";
+
+// What is kept as the deployed commit, whether going back is allowed, and what is shown.
+static RECORDS: [(&str, bool, &str); 4] = [
+    (ZEROS, false, "missing"),
+    (ZEROS, true, LOST),
+    ("x", false, "record"),
+    ("x", true, "record"),
+];
 
 #[test]
 fn a_record_has_to_be_of_a_commit_that_is_there(rt: HostRuntime) -> Result<(), Fail> {
     let alloc = rt.alloc();
     let world = world_of(&rt, alloc, FORKED, "clones/main");
     let target = id_of(&rt, &world, "i");
-    let zeros = record_of(alloc, Id::of_bytes([0; 20]))?;
+    for (place, (record, allowed, want)) in RECORDS.iter().enumerate() {
+        let line = main_from(&rt, alloc, &world, record.as_bytes(), target, *allowed)?;
+        assert!(rt; line.as_str() == *want, "case {place}");
+    }
+    Ok(())
+}
+
+#[test]
+fn a_record_has_no_byte_behind_its_line(rt: HostRuntime) -> Result<(), Fail> {
+    let alloc = rt.alloc();
+    let world = world_of(&rt, alloc, FORKED, "clones/main");
+    let target = id_of(&rt, &world, "i");
     let mut longer = record_of(alloc, target)?;
     longer.push(b'\n')?;
-    let lost = "main lost authentic introduced at https://given.example; stores deployed/main";
-    // what is kept as the deployed commit, whether going back is allowed, and what is shown
-    let rows: [(&[u8], bool, &str); 5] = [
-        (zeros.as_slice(), false, "missing"),
-        (zeros.as_slice(), true, lost),
-        (b"x", false, "record"),
-        (b"x", true, "record"),
-        (longer.as_slice(), true, "record"),
-    ];
-    for (record, allowed, want) in rows {
-        let line = main_from(&rt, alloc, &world, record, target, allowed)?;
-        assert_eq!(rt; line.as_str(), want);
-    }
+    let line = main_from(&rt, alloc, &world, longer.as_slice(), target, true)?;
+    assert!(rt; line.as_str() == "record");
     Ok(())
 }
 
 // How the channel `main` is put beside others, and what is kept before.
 #[derive(Clone, Copy)]
-struct Case<'a> {
+struct Case {
     // the history of the channel that it names
-    extra: &'a str,
+    extra: &'static str,
     // whether that channel is given too
     given: bool,
     check: bool,
     // what is kept as its deployed commit, where anything is
-    record: &'a [u8],
+    record: &'static str,
 }
 
 // The set of a case.
@@ -398,41 +421,46 @@ fn main_with(
     } else {
         "deployed/extra"
     };
-    let mut keeper = keeper_with(alloc, key, case.record)?;
+    let mut keeper = keeper_with(alloc, key, case.record.as_bytes())?;
     let set = set_with(rt, alloc, world, case)?;
     outcome_over(rt, alloc, world, &other, &mut keeper, &set)
 }
+
+const NAMED: &str =
+    "main new authentic introduced at https://given.example of https://main.example; extra new unchecked at https://e.example; stores channels/main deployed/main deployed/extra";
+
+const GIVEN: &str =
+    "main new authentic introduced at https://given.example of https://main.example; extra new unchecked at https://given.example; stores channels/main deployed/main deployed/extra";
+
+const UNCHECKED: &str =
+    "main new unchecked introduced at https://given.example of https://main.example; extra new unchecked at https://e.example; stores deployed/main deployed/extra";
+
+// The history of `extra`, whether it is given too, whether channels are checked, its record; what is shown, the questions.
+static DEPENDENCIES: [(&str, bool, bool, &str, &str, u64); 6] = [
+    (EXTRA, false, true, "", NAMED, 2),
+    (EXTRA, true, true, "", GIVEN, 2),
+    (BACK, false, true, "", NAMED, 2),
+    (BACK, true, true, "", GIVEN, 2),
+    (BACK, false, false, "", UNCHECKED, 0),
+    (EXTRA, false, true, ZEROS, "missing", 2),
+];
 
 #[test]
 fn dependencies_are_taken_once_behind_the_given_channels(rt: HostRuntime) -> Result<(), Fail> {
     let alloc = rt.alloc();
     let world = world_of(&rt, alloc, MAIN, "clones/main");
-    let zeros = record_of(alloc, Id::of_bytes([0; 20]))?;
-    let named =
-        "main new authentic introduced at https://given.example of https://main.example; extra new unchecked at https://e.example; stores channels/main deployed/main deployed/extra";
-    let given =
-        "main new authentic introduced at https://given.example of https://main.example; extra new unchecked at https://given.example; stores channels/main deployed/main deployed/extra";
-    let unchecked =
-        "main new unchecked introduced at https://given.example of https://main.example; extra new unchecked at https://e.example; stores deployed/main deployed/extra";
-    // the history of `extra`, whether it is given too, whether channels are checked, its record; what is shown, the questions
-    let rows: [(&str, bool, bool, &[u8], &str, u64); 6] = [
-        (EXTRA, false, true, b"", named, 2),
-        (EXTRA, true, true, b"", given, 2),
-        (BACK, false, true, b"", named, 2),
-        (BACK, true, true, b"", given, 2),
-        (BACK, false, false, b"", unchecked, 0),
-        (EXTRA, false, true, zeros.as_slice(), "missing", 2),
-    ];
-    for (extra, given, check, record, want, asked) in rows {
+    for (place, (extra, given, check, record, want, asked)) in DEPENDENCIES.iter().enumerate() {
         let case = Case {
-            extra,
-            given,
-            check,
-            record,
+            extra: *extra,
+            given: *given,
+            check: *check,
+            record: *record,
         };
         let (line, questions) = main_with(&rt, alloc, &world, case)?;
-        assert_eq!(rt; line.as_str(), want);
-        assert_eq!(rt; questions, asked);
+        assert!(rt;
+            line.as_str() == *want && questions == *asked,
+            "case {place}"
+        );
     }
     Ok(())
 }
@@ -475,9 +503,9 @@ fn a_new_channel_is_kept_at_its_target(rt: HostRuntime) -> Result<(), Fail> {
     let (Some(member), Some(pair)) = (verdict.members.get(0), verdict.store.get(0)) else {
         panic!(rt; "it has no member or keeps nothing");
     };
-    assert_eq!(rt; member.target, target);
-    assert_eq!(rt; pair.key.as_str(), "deployed/extra");
-    assert_eq!(rt; pair.value.as_slice(), record.as_slice());
+    assert!(rt; member.target == target);
+    assert!(rt; pair.key.as_str() == "deployed/extra");
+    assert!(rt; pair.value.as_slice() == record.as_slice());
     Ok(())
 }
 
@@ -517,9 +545,9 @@ fn there_are_at_most_256_channels(rt: HostRuntime) -> Result<(), Fail> {
     // how many others are given, and the refusal: without room for one more, or of the second channel, which has no clone
     for (others, want) in [(255, "too many"), (254, "channel")] {
         let set = long_set(&rt, alloc, &world, others)?;
-        assert_eq!(rt; set.channels.len(), others + 1);
+        assert!(rt; set.channels.len() == others + 1);
         let (line, _) = outcome_over(&rt, alloc, &world, &world, &mut keeper, &set)?;
-        assert_eq!(rt; line.as_str(), want, "beside {others}");
+        assert!(rt; line.as_str() == want, "beside {others}");
     }
     Ok(())
 }

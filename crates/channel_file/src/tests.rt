@@ -42,13 +42,13 @@ const COLLECTION_SIGNER: &str = "CABBA931C0FFEEC6900D0CFB090B11993D9AEBB5";
 
 // A fault, as a table has it.
 #[derive(Clone, Copy, Debug)]
-enum Want<'a> {
+enum Want {
     Sexp(SexpFail),
-    Evaluates(&'a str),
+    Evaluates(&'static str),
     Shape(Field),
     Version(u64),
     Name(u64),
-    Twice(&'a str),
+    Twice(&'static str),
 }
 
 // Whether the fault is the one of the table.
@@ -65,25 +65,19 @@ fn is_wanted(fail: &ChannelFail, want: Want) -> bool {
     }
 }
 
-// The bytes are no list of channels, for this reason.
-fn expect_no_list(rt: &(impl Abort + AllocGlobal), bytes: &[u8], want: Want) {
-    match read_channels(rt.alloc(), bytes) {
-        Err(fail) => assert!(rt;
-            is_wanted(&fail, want),
-            "{fail:?} and not {want:?} at {bytes:?}"
-        ),
-        Ok(_) => panic!(rt; "no fault at {bytes:?}"),
+// Whether the bytes are no list of channels, for this reason.
+fn is_no_list(alloc: Global, bytes: &[u8], want: &Want) -> bool {
+    match read_channels(alloc, bytes) {
+        Err(fail) => is_wanted(&fail, *want),
+        Ok(_) => false,
     }
 }
 
-// The bytes are no metadata, for this reason.
-fn expect_no_metadata(rt: &(impl Abort + AllocGlobal), bytes: &[u8], want: Want) {
-    match read_metadata(rt.alloc(), bytes) {
-        Err(fail) => assert!(rt;
-            is_wanted(&fail, want),
-            "{fail:?} and not {want:?} at {bytes:?}"
-        ),
-        Ok(_) => panic!(rt; "no fault at {bytes:?}"),
+// Whether the bytes are no metadata, for this reason.
+fn is_no_metadata(alloc: Global, bytes: &[u8], want: &Want) -> bool {
+    match read_metadata(alloc, bytes) {
+        Err(fail) => is_wanted(&fail, *want),
+        Ok(_) => false,
     }
 }
 
@@ -143,7 +137,7 @@ fn the_list_that_guix_describe_writes_is_one_channel(rt: HostRuntime) {
             [channel] => {
                 let url = "https://git.savannah.gnu.org/git/guix.git";
                 assert!(rt; has_parts(channel, "guix", url, "master"));
-                assert_eq!(rt; channel.commit, Id::of_hex(GUIX_COMMIT.as_bytes()));
+                assert!(rt; channel.commit == Id::of_hex(GUIX_COMMIT.as_bytes()));
                 assert!(rt; is_introduced(channel, GUIX_COMMIT, GUIX_SIGNER));
             }
             _ => panic!(rt; "another number of channels"),
@@ -158,8 +152,7 @@ fn a_channel_needs_a_name_and_an_address(rt: HostRuntime) {
         Ok(channels) => match channels.as_slice() {
             [channel] => {
                 assert!(rt; has_parts(channel, "b", "u", "master"));
-                assert_eq!(rt; channel.commit, None);
-                assert_eq!(rt; channel.introduction, None);
+                assert!(rt; channel.commit == None && channel.introduction == None);
             }
             _ => panic!(rt; "another number of channels"),
         },
@@ -167,70 +160,76 @@ fn a_channel_needs_a_name_and_an_address(rt: HostRuntime) {
     }
 }
 
+// Texts that are no list, and why.
+static EVALUATED: [(&str, Want); 15] = [
+    ("%default-channels", Want::Evaluates("%default-channels")),
+    (
+        "(cons (channel) %default-channels)",
+        Want::Evaluates("cons"),
+    ),
+    ("(modify-services x)", Want::Evaluates("modify-services")),
+    (
+        "(list %default-channels)",
+        Want::Evaluates("%default-channels"),
+    ),
+    ("(list (modify x))", Want::Evaluates("modify")),
+    ("list", Want::Evaluates("list")),
+    ("'()", Want::Evaluates("quote")),
+    ("", Want::Shape(Field::Channel)),
+    ("\"list\"", Want::Shape(Field::Channel)),
+    ("7", Want::Shape(Field::Channel)),
+    ("()", Want::Shape(Field::Channel)),
+    ("((list))", Want::Shape(Field::Channel)),
+    ("(list 7)", Want::Shape(Field::Channel)),
+    ("(list ())", Want::Shape(Field::Channel)),
+    ("(list (channel)", Want::Sexp(SexpFail::Open(15))),
+];
+
 #[test]
 fn what_would_be_evaluated_is_refused_by_name(rt: HostRuntime) {
-    for (text, want) in [
-        ("%default-channels", Want::Evaluates("%default-channels")),
-        (
-            "(cons (channel) %default-channels)",
-            Want::Evaluates("cons"),
-        ),
-        ("(modify-services x)", Want::Evaluates("modify-services")),
-        (
-            "(list %default-channels)",
-            Want::Evaluates("%default-channels"),
-        ),
-        ("(list (modify x))", Want::Evaluates("modify")),
-        ("list", Want::Evaluates("list")),
-        ("'()", Want::Evaluates("quote")),
-        ("", Want::Shape(Field::Channel)),
-        ("\"list\"", Want::Shape(Field::Channel)),
-        ("7", Want::Shape(Field::Channel)),
-        ("()", Want::Shape(Field::Channel)),
-        ("((list))", Want::Shape(Field::Channel)),
-        ("(list 7)", Want::Shape(Field::Channel)),
-        ("(list ())", Want::Shape(Field::Channel)),
-        ("(list (channel)", Want::Sexp(SexpFail::Open(15))),
-    ] {
-        expect_no_list(&rt, text.as_bytes(), want);
+    for (text, want) in &EVALUATED {
+        assert!(rt; is_no_list(rt.alloc(), text.as_bytes(), want), "at {text}");
     }
 }
 
+const FIRST: &str = "(list (channel (name 'a) (url \"u\")) (channel (url \"u\")";
+
+// The fields of the second channel, whose address is given already, and its fault.
+static SECONDS: [(&str, Want); 18] = [
+    ("", Want::Name(1)),
+    ("(name 'b) (url \"v\")", Want::Shape(Field::Channel)),
+    ("(name 'b) (name (f))", Want::Shape(Field::Channel)),
+    ("(colour \"red\")", Want::Shape(Field::Channel)),
+    ("(branch)", Want::Shape(Field::Channel)),
+    ("(branch \"a\" \"b\")", Want::Shape(Field::Channel)),
+    ("branch", Want::Shape(Field::Channel)),
+    ("(name b)", Want::Name(1)),
+    ("(name \"b\")", Want::Name(1)),
+    ("(name '\"b\")", Want::Name(1)),
+    ("(name (symbol \"b\"))", Want::Evaluates("symbol")),
+    ("(branch (f))", Want::Evaluates("f")),
+    ("(branch '\"b\")", Want::Evaluates("quote")),
+    ("(branch ())", Want::Shape(Field::Branch)),
+    ("(branch \"a\\tb\")", Want::Shape(Field::Branch)),
+    ("(commit \"9edb\") (name b)", Want::Shape(Field::Commit)),
+    ("(introduction (f))", Want::Evaluates("f")),
+    (
+        "(introduction (make-channel-introduction \"9edb\"))",
+        Want::Shape(Field::Introduction),
+    ),
+];
+
 #[test]
 fn the_first_element_at_fault_comes_before_what_is_absent(rt: HostRuntime) -> Result<(), Fail> {
-    // the fields of the second channel, whose address is given already, and its fault
-    for (fields, want) in [
-        ("", Want::Name(1)),
-        ("(name 'b) (url \"v\")", Want::Shape(Field::Channel)),
-        ("(name 'b) (name (f))", Want::Shape(Field::Channel)),
-        ("(colour \"red\")", Want::Shape(Field::Channel)),
-        ("(branch)", Want::Shape(Field::Channel)),
-        ("(branch \"a\" \"b\")", Want::Shape(Field::Channel)),
-        ("branch", Want::Shape(Field::Channel)),
-        ("(name b)", Want::Name(1)),
-        ("(name \"b\")", Want::Name(1)),
-        ("(name '\"b\")", Want::Name(1)),
-        ("(name (symbol \"b\"))", Want::Evaluates("symbol")),
-        ("(branch (f))", Want::Evaluates("f")),
-        ("(branch '\"b\")", Want::Evaluates("quote")),
-        ("(branch ())", Want::Shape(Field::Branch)),
-        ("(branch \"a\\tb\")", Want::Shape(Field::Branch)),
-        ("(commit \"9edb\") (name b)", Want::Shape(Field::Commit)),
-        ("(introduction (f))", Want::Evaluates("f")),
-        (
-            "(introduction (make-channel-introduction \"9edb\"))",
-            Want::Shape(Field::Introduction),
-        ),
-    ] {
-        let text = joined(
-            rt.alloc(),
-            "(list (channel (name 'a) (url \"u\")) (channel (url \"u\")",
-            fields,
-            "))",
-        )?;
-        expect_no_list(&rt, text.as_str().as_bytes(), want);
+    for (fields, want) in &SECONDS {
+        let text = joined(rt.alloc(), FIRST, fields, "))")?;
+        assert!(rt;
+            is_no_list(rt.alloc(), text.as_str().as_bytes(), want),
+            "at {fields}"
+        );
     }
-    expect_no_list(&rt, b"(list (channel (name 'a)))", Want::Shape(Field::Url));
+    let want = &Want::Shape(Field::Url);
+    assert!(rt; is_no_list(rt.alloc(), b"(list (channel (name 'a)))", want));
     Ok(())
 }
 
@@ -247,83 +246,81 @@ fn read_one(
     read_channels(alloc, text.as_str().as_bytes())
 }
 
+// Whether there is a channel of this name.
+fn is_name(alloc: Global, name: &str) -> bool {
+    read_one(alloc, name, "u", "b").is_ok()
+}
+
 #[test]
 fn a_name_is_1_to_64_letters_digits_and_marks(rt: HostRuntime) -> Result<(), Fail> {
-    for (name, fits) in [
-        ("a", true),
-        ("9-_+.", true),
-        ("-a", false),
-        ("_", false),
-        ("a/b", false),
-        ("a:b", false),
-        ("caf\u{e9}", false),
-    ] {
-        assert_eq!(rt;
-            read_one(rt.alloc(), name, "u", "b").is_ok(),
-            fits,
-            "at {name}"
-        );
+    let alloc = rt.alloc();
+    for name in ["-a", "_", "a/b", "a:b", "caf\u{e9}"] {
+        assert!(rt; !is_name(alloc, name), "at {name}");
     }
-    for (count, fits) in [(64, true), (65, false)] {
-        let name = letters(rt.alloc(), count)?;
-        assert_eq!(rt;
-            read_one(rt.alloc(), name.as_str(), "u", "b").is_ok(),
-            fits,
-            "of {count}"
-        );
-    }
+    assert!(rt; is_name(alloc, "a") && is_name(alloc, "9-_+."));
+    let longest = letters(alloc, 64)?;
+    let longer = letters(alloc, 65)?;
+    assert!(rt; is_name(alloc, longest.as_str()) && !is_name(alloc, longer.as_str()));
     Ok(())
 }
+
+// The lengths of an address and of a branch, and whether both fit.
+static LENGTHS: [(usize, usize, bool); 5] = [
+    (0, 1, false),
+    (1, 0, false),
+    (4096, 900, true),
+    (4097, 1, false),
+    (1, 901, false),
+];
 
 #[test]
 fn an_address_has_4096_bytes_and_a_branch_900(rt: HostRuntime) -> Result<(), Fail> {
-    // the lengths of the address and of the branch, and whether both fit
-    for (url, branch, fit) in [
-        (0, 1, false),
-        (1, 0, false),
-        (4096, 900, true),
-        (4097, 1, false),
-        (1, 901, false),
-    ] {
-        let url = letters(rt.alloc(), url)?;
-        let branch = letters(rt.alloc(), branch)?;
-        let answer = read_one(rt.alloc(), "a", url.as_str(), branch.as_str());
-        assert_eq!(rt;
-            answer.is_ok(),
-            fit,
-            "of {} and {}",
-            url.len(),
-            branch.len()
+    for (url, branch, fit) in &LENGTHS {
+        let address = letters(rt.alloc(), *url)?;
+        let name = letters(rt.alloc(), *branch)?;
+        let answer = read_one(rt.alloc(), "a", address.as_str(), name.as_str());
+        assert!(rt; answer.is_ok() == *fit, "of {url} and {branch}");
+    }
+    Ok(())
+}
+
+// How many channels of different names come first, the channels behind them, and the fault.
+static NUMBERED: [(usize, &str, Want); 4] = [
+    (257, "", Want::Shape(Field::Channel)),
+    (
+        256,
+        "(channel (name 'c0) (url \"u\"))",
+        Want::Shape(Field::Channel),
+    ),
+    (256, "(channel (name c0) (url \"u\"))", Want::Name(256)),
+    (
+        3,
+        "(channel (name 'c1) (url \"u\")) (channel (name 'c0) (url \"u\"))",
+        Want::Twice("c1"),
+    ),
+];
+
+#[test]
+fn there_are_at_most_256_channels_of_different_names(rt: HostRuntime) -> Result<(), Fail> {
+    for (count, further, want) in &NUMBERED {
+        let text = numbered(rt.alloc(), *count, further)?;
+        assert!(rt;
+            is_no_list(rt.alloc(), text.as_str().as_bytes(), want),
+            "at {count}{further}"
         );
     }
     Ok(())
 }
 
 #[test]
-fn there_are_at_most_256_channels_of_different_names(rt: HostRuntime) -> Result<(), Fail> {
-    for (count, further, want) in [
-        (257, "", Want::Shape(Field::Channel)),
-        (
-            256,
-            "(channel (name 'c0) (url \"u\"))",
-            Want::Shape(Field::Channel),
-        ),
-        (256, "(channel (name c0) (url \"u\"))", Want::Name(256)),
-        (
-            3,
-            "(channel (name 'c1) (url \"u\")) (channel (name 'c0) (url \"u\"))",
-            Want::Twice("c1"),
-        ),
-    ] {
-        let text = numbered(rt.alloc(), count, further)?;
-        expect_no_list(&rt, text.as_str().as_bytes(), want);
-    }
+fn a_list_has_0_to_256_channels(rt: HostRuntime) -> Result<(), Fail> {
     for count in [0, 256] {
         let text = numbered(rt.alloc(), count, "")?;
-        match read_channels(rt.alloc(), text.as_str().as_bytes()) {
-            Ok(channels) => assert_eq!(rt; channels.len(), count),
-            Err(fail) => panic!(rt; "{fail:?} at {count}"),
-        }
+        let channels = read_channels(rt.alloc(), text.as_str().as_bytes());
+        assert!(rt;
+            matches!(&channels, Ok(list) if list.len() == count),
+            "at {count}"
+        );
     }
     Ok(())
 }
@@ -335,7 +332,7 @@ fn the_metadata_of_the_manual_has_one_dependency(rt: HostRuntime) {
             [channel] => {
                 let url = "https://example.org/first-collection.git";
                 assert!(rt; has_parts(channel, "some-collection", url, "master"));
-                assert_eq!(rt; channel.commit, None);
+                assert!(rt; channel.commit == None);
                 assert!(rt; is_introduced(channel, COLLECTION_COMMIT, COLLECTION_SIGNER));
             }
             _ => panic!(rt; "another number of dependencies"),
@@ -362,83 +359,93 @@ fn of_properties_of_one_name_the_first_counts(rt: HostRuntime) {
             assert!(rt; is_text(&metadata.url, "u"));
             assert!(rt; is_text(&metadata.keyring_reference, "k"));
             assert!(rt; is_text(&metadata.news_file, "n"));
-            assert_eq!(rt; metadata.dependencies.len(), 0);
+            assert!(rt; metadata.dependencies.len() == 0);
         }
         Err(fail) => panic!(rt; "{fail:?}"),
     }
 }
 
+// Texts that are no metadata, and why.
+static METADATA: [(&str, Want); 12] = [
+    ("", Want::Shape(Field::Channel)),
+    ("channel", Want::Shape(Field::Channel)),
+    ("(list)", Want::Shape(Field::Channel)),
+    ("(channel)", Want::Shape(Field::Channel)),
+    ("(channel (version \"0\"))", Want::Shape(Field::Channel)),
+    ("(channel (version 1))", Want::Version(1)),
+    (
+        "(channel (version 0) (directory))",
+        Want::Shape(Field::Directory),
+    ),
+    (
+        "(channel (version 0) (news-file 7) (url \"\"))",
+        Want::Shape(Field::Url),
+    ),
+    (
+        "(channel (version 0) (news-file \"a\" \"b\"))",
+        Want::Shape(Field::NewsFile),
+    ),
+    (
+        "(channel (version 0) (keyring-reference \"\"))",
+        Want::Shape(Field::KeyringReference),
+    ),
+    (
+        "(channel (version 0) (dependencies 7))",
+        Want::Shape(Field::Dependencies),
+    ),
+    ("(channel (version 0)", Want::Sexp(SexpFail::Open(20))),
+];
+
 #[test]
 fn metadata_has_one_fault(rt: HostRuntime) {
-    for (text, want) in [
-        ("", Want::Shape(Field::Channel)),
-        ("channel", Want::Shape(Field::Channel)),
-        ("(list)", Want::Shape(Field::Channel)),
-        ("(channel)", Want::Shape(Field::Channel)),
-        ("(channel (version \"0\"))", Want::Shape(Field::Channel)),
-        ("(channel (version 1))", Want::Version(1)),
-        (
-            "(channel (version 0) (directory))",
-            Want::Shape(Field::Directory),
-        ),
-        (
-            "(channel (version 0) (news-file 7) (url \"\"))",
-            Want::Shape(Field::Url),
-        ),
-        (
-            "(channel (version 0) (news-file \"a\" \"b\"))",
-            Want::Shape(Field::NewsFile),
-        ),
-        (
-            "(channel (version 0) (keyring-reference \"\"))",
-            Want::Shape(Field::KeyringReference),
-        ),
-        (
-            "(channel (version 0) (dependencies 7))",
-            Want::Shape(Field::Dependencies),
-        ),
-        ("(channel (version 0)", Want::Sexp(SexpFail::Open(20))),
-    ] {
-        expect_no_metadata(&rt, text.as_bytes(), want);
+    for (text, want) in &METADATA {
+        assert!(rt;
+            is_no_metadata(rt.alloc(), text.as_bytes(), want),
+            "at {text}"
+        );
     }
 }
 
+const FIRST_DEPENDENCY: &str =
+    "(channel (version 0) (dependencies (channel (name a) (url \"u\")) (channel ";
+
+// The fields of the second dependency, and its fault.
+static DEPENDENCIES: [(&str, Want); 10] = [
+    ("(url \"u\")", Want::Name(1)),
+    ("(name 'b) (url 7)", Want::Shape(Field::Name)),
+    ("(name) (url \"u\")", Want::Shape(Field::Name)),
+    ("(name -b) (url 7)", Want::Name(1)),
+    ("(commit 7) (name b)", Want::Shape(Field::Url)),
+    (
+        "(name b) (url \"u\") (branch 7)",
+        Want::Shape(Field::Branch),
+    ),
+    (
+        "(name b) (url \"u\") (commit (f))",
+        Want::Shape(Field::Commit),
+    ),
+    (
+        "(name b) (url \"u\") (introduction (f))",
+        Want::Shape(Field::Introduction),
+    ),
+    (
+        "(name b) (url \"u\") (introduction (channel-introduction (version 1)))",
+        Want::Version(1),
+    ),
+    (
+        "(name b) (url \"u\") (introduction (channel-introduction (version 0)))",
+        Want::Shape(Field::Introduction),
+    ),
+];
+
 #[test]
 fn a_dependency_is_judged_field_by_field(rt: HostRuntime) -> Result<(), Fail> {
-    for (fields, want) in [
-        ("(url \"u\")", Want::Name(1)),
-        ("(name 'b) (url 7)", Want::Shape(Field::Name)),
-        ("(name) (url \"u\")", Want::Shape(Field::Name)),
-        ("(name -b) (url 7)", Want::Name(1)),
-        ("(commit 7) (name b)", Want::Shape(Field::Url)),
-        (
-            "(name b) (url \"u\") (branch 7)",
-            Want::Shape(Field::Branch),
-        ),
-        (
-            "(name b) (url \"u\") (commit (f))",
-            Want::Shape(Field::Commit),
-        ),
-        (
-            "(name b) (url \"u\") (introduction (f))",
-            Want::Shape(Field::Introduction),
-        ),
-        (
-            "(name b) (url \"u\") (introduction (channel-introduction (version 1)))",
-            Want::Version(1),
-        ),
-        (
-            "(name b) (url \"u\") (introduction (channel-introduction (version 0)))",
-            Want::Shape(Field::Introduction),
-        ),
-    ] {
-        let text = joined(
-            rt.alloc(),
-            "(channel (version 0) (dependencies (channel (name a) (url \"u\")) (channel ",
-            fields,
-            ")))",
-        )?;
-        expect_no_metadata(&rt, text.as_str().as_bytes(), want);
+    for (fields, want) in &DEPENDENCIES {
+        let text = joined(rt.alloc(), FIRST_DEPENDENCY, fields, ")))")?;
+        assert!(rt;
+            is_no_metadata(rt.alloc(), text.as_str().as_bytes(), want),
+            "at {fields}"
+        );
     }
     Ok(())
 }

@@ -1,7 +1,7 @@
 //! Small histories, and a long line, with ample memory.
 use crate::{Graph, GraphFail, Marks, Relation};
 use object_frames::{Id, IdList};
-use std::alloc::Global;
+use std::alloc::{AllocError, Global};
 use std::process::Abort;
 use std::test::Fail;
 
@@ -12,7 +12,7 @@ fn id(n: u8) -> Id {
     Id::of_bytes(bytes)
 }
 
-fn ids(alloc: Global, names: &[u8]) -> Result<IdList, Fail> {
+fn ids(alloc: Global, names: &[u8]) -> Result<IdList, AllocError> {
     let mut list = IdList::new(alloc);
     for n in names {
         list.push(id(*n))?;
@@ -73,14 +73,14 @@ fn related(rt: &impl Abort, graph: &mut Graph, old: Id, new: Id) -> Result<Relat
 #[test]
 fn generations_count_from_the_root(rt: HostRuntime) -> Result<(), Fail> {
     let mut graph = rooted(rt.alloc())?;
-    assert_eq!(rt; graph.generation(id(1)), None, "before it is ranked");
+    assert!(rt; graph.generation(id(1)) == None, "before it is ranked");
     graph.rank()?;
-    for (n, generation) in [(9, 1), (4, 2), (3, 2), (1, 3)] {
-        assert_eq!(rt; graph.generation(id(n)), Some(generation), "of {n}");
-    }
-    assert_eq!(rt;
-        graph.generation(id(2)),
-        None,
+    assert!(rt; graph.generation(id(9)) == Some(1));
+    assert!(rt; graph.generation(id(4)) == Some(2));
+    assert!(rt; graph.generation(id(3)) == Some(2));
+    assert!(rt; graph.generation(id(1)) == Some(3));
+    assert!(rt;
+        graph.generation(id(2)) == None,
         "of a commit that is not held"
     );
     Ok(())
@@ -90,19 +90,16 @@ fn generations_count_from_the_root(rt: HostRuntime) -> Result<(), Fail> {
 fn a_commit_is_held_with_its_parents(rt: HostRuntime) -> Result<(), Fail> {
     let alloc = rt.alloc();
     let mut graph = rooted(alloc)?;
-    assert_eq!(rt; graph.len(), 4);
+    assert!(rt; graph.len() == 4);
     assert!(rt; graph.holds(id(9)) && !graph.holds(id(2)));
-    assert_eq!(rt; graph.parents(id(1)), Some([id(4), id(3)].as_slice()));
-    assert_eq!(rt; graph.parents(id(2)), None);
-    assert_eq!(rt; graph.missing(), None);
+    assert!(rt; graph.parents(id(1)) == Some([id(4), id(3)].as_slice()));
+    assert!(rt; graph.parents(id(2)) == None);
+    assert!(rt; graph.missing() == None);
     graph.rank()?;
-    assert_eq!(rt;
-        graph.add(id(9), &ids(alloc, &[1])?),
-        Err(GraphFail::Present)
-    );
-    assert_eq!(rt;
-        graph.generation(id(9)),
-        Some(1),
+    let again = graph.add(id(9), &ids(alloc, &[1])?);
+    assert!(rt; again == Err(GraphFail::Present));
+    assert!(rt;
+        graph.generation(id(9)) == Some(1),
         "after a commit that was refused"
     );
     Ok(())
@@ -113,9 +110,8 @@ fn a_commit_reaches_itself_and_its_ancestors(rt: HostRuntime) -> Result<(), Fail
     let alloc = rt.alloc();
     let graph = rooted(alloc)?;
     let marks = reached(&rt, alloc, &graph, id(4))?;
-    for (n, marked) in [(9, true), (4, true), (3, false), (1, false)] {
-        assert_eq!(rt; marks.has(id(n)), marked, "at {n}");
-    }
+    assert!(rt; marks.has(id(9)) && marks.has(id(4)));
+    assert!(rt; !marks.has(id(3)) && !marks.has(id(1)));
     Ok(())
 }
 
@@ -139,50 +135,50 @@ fn descendants_of_a_cycle_have_no_generation_either(rt: HostRuntime) -> Result<(
     Ok(())
 }
 
+// Two commits, and how the first stands to the second.
+static RELATIONS: [(u8, u8, Relation); 5] = [
+    (4, 1, Relation::Ancestor),
+    (9, 1, Relation::Ancestor),
+    (1, 4, Relation::Descendant),
+    (4, 3, Relation::Unrelated),
+    (1, 1, Relation::Same),
+];
+
 #[test]
 fn commits_that_meet_later_are_unrelated(rt: HostRuntime) -> Result<(), Fail> {
     let mut graph = rooted(rt.alloc())?;
-    for (old, new, relation) in [
-        (4, 1, Relation::Ancestor),
-        (9, 1, Relation::Ancestor),
-        (1, 4, Relation::Descendant),
-        (4, 3, Relation::Unrelated),
-        (1, 1, Relation::Same),
-    ] {
-        assert_eq!(rt;
-            related(&rt, &mut graph, id(old), id(new))?,
-            relation,
-            "{old} to {new}"
-        );
+    for (old, new, want) in &RELATIONS {
+        let relation = related(&rt, &mut graph, id(*old), id(*new))?;
+        assert!(rt; relation == *want, "{old} to {new}");
     }
-    assert_eq!(rt; graph.generation(id(1)), Some(3), "it is ranked still");
+    assert!(rt; graph.generation(id(1)) == Some(3), "it is ranked still");
     Ok(())
 }
+
+// Target, introduction, entries of the cache, and what is left.
+static LEFT: [(u8, u8, &[u8], &[u8]); 9] = [
+    (1, 9, &[], &[3, 4, 1]),
+    (1, 4, &[], &[3, 1]),
+    (1, 9, &[4], &[3, 1]),
+    (1, 9, &[4, 3], &[1]),
+    // not reached, though it reaches the target; and not held
+    (4, 9, &[1], &[4]),
+    (1, 9, &[7], &[3, 4, 1]),
+    // the introduction is on another line, is the target, is its descendant
+    (4, 3, &[], &[4]),
+    (4, 4, &[], &[]),
+    (3, 1, &[], &[]),
+];
 
 #[test]
 fn what_is_left_of_a_history_comes_by_generation_and_then_id(rt: HostRuntime) -> Result<(), Fail> {
     let alloc = rt.alloc();
     let mut graph = rooted(alloc)?;
-    // target, introduction, entries of the cache, and what is left
-    let rows: [(u8, u8, &[u8], &[u8]); 9] = [
-        (1, 9, &[], &[3, 4, 1]),
-        (1, 4, &[], &[3, 1]),
-        (1, 9, &[4], &[3, 1]),
-        (1, 9, &[4, 3], &[1]),
-        // not reached, though it reaches the target; and not held
-        (4, 9, &[1], &[4]),
-        (1, 9, &[7], &[3, 4, 1]),
-        // the introduction is on another line, is the target, is its descendant
-        (4, 3, &[], &[4]),
-        (4, 4, &[], &[]),
-        (3, 1, &[], &[]),
-    ];
-    for (target, intro, entries, want) in rows {
-        let found = left(&rt, alloc, &mut graph, id(target), id(intro), entries)?;
+    for (target, intro, entries, want) in &LEFT {
+        let found = left(&rt, alloc, &mut graph, id(*target), id(*intro), entries)?;
         let want = ids(alloc, want)?;
-        assert_eq!(rt;
-            found.as_slice(),
-            want.as_slice(),
+        assert!(rt;
+            found.as_slice() == want.as_slice(),
             "of {target} beyond {intro}"
         );
     }
@@ -195,8 +191,8 @@ fn a_parent_that_is_listed_twice_counts_once(rt: HostRuntime) -> Result<(), Fail
     let mut graph = rooted(alloc)?;
     graph.add(id(8), &ids(alloc, &[1, 9, 1])?)?;
     let found = left(&rt, alloc, &mut graph, id(8), id(4), &[])?;
-    assert_eq!(rt; found.as_slice(), [id(3), id(1), id(8)].as_slice());
-    assert_eq!(rt; graph.generation(id(8)), Some(4));
+    assert!(rt; found.as_slice() == [id(3), id(1), id(8)].as_slice());
+    assert!(rt; graph.generation(id(8)) == Some(4));
     Ok(())
 }
 

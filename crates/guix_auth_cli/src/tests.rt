@@ -16,6 +16,13 @@ const SCRIPT: &str = "key a\ncommit i - a a\ncommit c i a a\nbranch master c\n";
 const LIST: &str =
     "(list (channel (name 'main) (url \"https://m.example\") (introduction (make-channel-introduction \"f95cd7269964400da5e97384e5f17cb804017df9\" (openpgp-fingerprint \"B4754DB47B6A4BC3DCFFB18A9480FD267E05848C\")))))";
 
+const TARGET: &str =
+    "authenticate f95cd7269964400da5e97384e5f17cb804017df9 B4754DB47B6A4BC3DCFFB18A9480FD267E05848C -r clones/main --stats";
+
+const SET: &str = "channels list --clones=clones";
+
+const BAD_WORDS: &str = "guix-auth: bad words; see guix-auth --help\n";
+
 fn text_of(alloc: Global, text: &str) -> Result<Text, AllocError> {
     let mut copy = Text::new(alloc);
     copy.push(text)?;
@@ -30,27 +37,39 @@ fn words_in(alloc: Global, line: &str) -> Result<Words, AllocError> {
     Ok(words)
 }
 
-fn world_of(rt: &impl Abort, alloc: Global) -> World {
-    match build(alloc, SCRIPT.as_bytes(), "clones/main") {
+// One value at a key.
+fn pair_of(alloc: Global, key: &str, value: &str) -> Result<Pairs, AllocError> {
+    let key = text_of(alloc, key)?;
+    let value = Bytes::from_slice(alloc, value.as_bytes())?;
+    let mut pairs = Pairs::new(alloc);
+    pairs.push(Pair { key, value })?;
+    Ok(pairs)
+}
+
+fn world_of(rt: &impl Abort, alloc: Global, script: &str, dir: &str) -> World {
+    match build(alloc, script.as_bytes(), dir) {
         Ok(world) => world,
-        Err(_) => panic!(rt; "the script is at fault"),
+        Err(_) => panic!(rt; "a script is at fault"),
     }
 }
 
-fn git_of(rt: &impl Abort, alloc: Global, world: &World) -> Result<MemGit, AllocError> {
-    let rows = world.git_rows(alloc)?;
+fn git_of(rt: &impl Abort, alloc: Global, rows: GitRows) -> Result<MemGit, AllocError> {
     assert!(rt; rows_fit(&rows));
     MemGit::new(alloc, rows, Numbers::new(alloc), Numbers::new(alloc))
 }
 
 // A room with the file `list`.
-fn room_of(alloc: Global) -> Result<MemRoom, AllocError> {
-    let mut files = Pairs::new(alloc);
-    files.push(Pair {
-        key: text_of(alloc, "list")?,
-        value: Bytes::from_slice(alloc, LIST.as_bytes())?,
-    })?;
+fn room_of(alloc: Global, list: &str) -> Result<MemRoom, AllocError> {
+    let files = pair_of(alloc, "list", list)?;
     MemRoom::new(alloc, &files, Numbers::new(alloc))
+}
+
+fn sink_of(alloc: Global) -> Result<MemSink, AllocError> {
+    MemSink::new(alloc, 4096, Numbers::new(alloc))
+}
+
+fn empty_keeper(alloc: Global) -> Result<MemKeeper, AllocError> {
+    MemKeeper::new(alloc, &Pairs::new(alloc), Numbers::new(alloc))
 }
 
 // The ports of a run, but for its keeper.
@@ -63,17 +82,34 @@ struct Ports {
     err: MemSink,
 }
 
-fn ports_of(rt: &impl Abort, alloc: Global) -> Result<Ports, AllocError> {
-    let world = world_of(rt, alloc);
-    let git = git_of(rt, alloc, &world)?;
-    let gpgv = MemSig::new(alloc, world.sig_rows(alloc)?, Numbers::new(alloc))?;
+// The ports over these rows, with this list.
+fn ports_over(
+    rt: &impl Abort,
+    alloc: Global,
+    git: GitRows,
+    gpgv: SigRows,
+    list: &str,
+) -> Result<Ports, AllocError> {
+    let git = git_of(rt, alloc, git)?;
+    let gpgv = MemSig::new(alloc, gpgv, Numbers::new(alloc))?;
+    let room = room_of(alloc, list)?;
+    let out = sink_of(alloc)?;
+    let err = sink_of(alloc)?;
     Ok(Ports {
         git,
         gpgv,
-        room: room_of(alloc)?,
-        out: MemSink::new(alloc, 4096, Numbers::new(alloc))?,
-        err: MemSink::new(alloc, 4096, Numbers::new(alloc))?,
+        room,
+        out,
+        err,
     })
+}
+
+// The ports over one history.
+fn ports_of(rt: &impl Abort, alloc: Global) -> Result<Ports, AllocError> {
+    let world = world_of(rt, alloc, SCRIPT, "clones/main");
+    let git = world.git_rows(alloc)?;
+    let gpgv = world.sig_rows(alloc)?;
+    ports_over(rt, alloc, git, gpgv, LIST)
 }
 
 // The status of a line of words.
@@ -96,67 +132,73 @@ fn status_of<K: Keeper>(
     ))
 }
 
-// Runs a line of words, and compares what is shown and how often gpgv is asked.
-fn check(
+// Whether a line of words ends in this status, shows this, tells this and asks gpgv so often.
+fn ends_in(
     rt: &impl Abort,
     alloc: Global,
     keeper: &mut MemKeeper,
     line: &str,
     want: (u8, &str, &str, u64),
-) -> Result<(), AllocError> {
+) -> Result<bool, AllocError> {
     let mut ports = ports_of(rt, alloc)?;
     let status = status_of(alloc, line, &mut ports, keeper)?;
     let (due, output, told, asked) = want;
-    assert_eq!(rt; status, due, "the status of {line}");
-    assert_eq!(rt;
-        ports.out.taken(),
-        output.as_bytes(),
-        "the output of {line}"
-    );
-    assert_eq!(rt;
-        ports.err.taken(),
-        told.as_bytes(),
-        "what is told of {line}"
-    );
-    assert_eq!(rt; ports.gpgv.asked(), asked, "the questions of {line}");
-    Ok(())
+    Ok(
+        status == due
+            && ports.out.taken() == output.as_bytes()
+            && ports.err.taken() == told.as_bytes()
+            && ports.gpgv.asked() == asked,
+    )
 }
+
+static NO_COMMANDS: [&str; 5] = [
+    "authenticate",
+    "authenticate f95cd7269964400da5e97384e5f17cb804017df9",
+    "authenticate xyz B4754DB47B6A4BC3DCFFB18A9480FD267E05848C",
+    "channels f",
+    "--help --help",
+];
 
 #[test]
 fn words_that_state_no_command_are_told(rt: HostRuntime) -> Result<(), Fail> {
     let alloc = rt.alloc();
-    let bad = "guix-auth: bad words; see guix-auth --help\n";
-    let mut keeper = MemKeeper::new(alloc, &Pairs::new(alloc), Numbers::new(alloc))?;
-    for line in [
-        "authenticate",
-        "authenticate f95cd7269964400da5e97384e5f17cb804017df9",
-        "authenticate xyz B4754DB47B6A4BC3DCFFB18A9480FD267E05848C",
-        "channels f",
-        "--help --help",
-    ] {
-        check(&rt, alloc, &mut keeper, line, (2, "", bad, 0))?;
+    let mut keeper = empty_keeper(alloc)?;
+    for (place, line) in NO_COMMANDS.iter().enumerate() {
+        let want = (2, "", BAD_WORDS, 0);
+        assert!(rt;
+            ends_in(&rt, alloc, &mut keeper, line, want)?,
+            "case {place}"
+        );
     }
     Ok(())
 }
 
+// The words, the output, and how often gpgv is asked; one run behind the other.
+static RUNS: [(&str, &str, u64); 4] = [
+    (TARGET, "B4754DB47B6A4BC3DCFFB18A9480FD267E05848C 1\n", 2),
+    (TARGET, "", 1),
+    (
+        SET,
+        "main 25089ac7762921f2671d4ede88d73ea3b1125a18 new authentic\n",
+        2,
+    ),
+    (
+        SET,
+        "main 25089ac7762921f2671d4ede88d73ea3b1125a18 same authentic\n",
+        1,
+    ),
+];
+
 #[test]
 fn a_target_and_a_list_are_checked_and_kept(rt: HostRuntime) -> Result<(), Fail> {
     let alloc = rt.alloc();
-    let mut keeper = MemKeeper::new(alloc, &Pairs::new(alloc), Numbers::new(alloc))?;
-    let target =
-        "authenticate f95cd7269964400da5e97384e5f17cb804017df9 B4754DB47B6A4BC3DCFFB18A9480FD267E05848C -r clones/main --stats";
-    let list = "channels list --clones=clones";
-    let signers = "B4754DB47B6A4BC3DCFFB18A9480FD267E05848C 1\n";
-    let new = "main 25089ac7762921f2671d4ede88d73ea3b1125a18 new authentic\n";
-    let same = "main 25089ac7762921f2671d4ede88d73ea3b1125a18 same authentic\n";
-    let rows = [
-        (target, 0, signers, 2),
-        (target, 0, "", 1),
-        (list, 0, new, 2),
-        (list, 0, same, 1),
-    ];
-    for (line, status, output, asked) in rows {
-        check(&rt, alloc, &mut keeper, line, (status, output, "", asked))?;
+    let mut keeper = empty_keeper(alloc)?;
+    for (place, (line, output, asked)) in RUNS.iter().enumerate() {
+        let want = (0, *output, "", *asked);
+        assert!(rt;
+            ends_in(&rt, alloc, &mut keeper, line, want)?,
+            "case {place}"
+        );
     }
     assert_eq!(rt; keeper.stores(), 2);
     Ok(())
@@ -175,156 +217,86 @@ commit e - a a
 branch master e
 ";
 
-// The clones of the two.
-#[derive(Drop)]
-struct Clones {
-    main: World,
-    extra: World,
-}
+// A list of the first, which is introduced by its commit i and fetched from a mirror.
+const NAMING_LIST: &str =
+    "(list (channel (name 'main) (url \"https://m.example\") (introduction (make-channel-introduction \"8279432fe3a9f57a55744b9829973c0b14dd5271\" (openpgp-fingerprint \"B4754DB47B6A4BC3DCFFB18A9480FD267E05848C\")))))";
 
-fn clone_of(rt: &impl Abort, alloc: Global, script: &str, dir: &str) -> World {
-    match build(alloc, script.as_bytes(), dir) {
-        Ok(world) => world,
-        Err(_) => panic!(rt; "a script is at fault: {script}"),
-    }
-}
-
-fn git_over(rt: &impl Abort, alloc: Global, clones: &Clones) -> Result<MemGit, AllocError> {
-    let mut rows = GitRows::new(alloc);
-    for row in clones.main.git_rows(alloc)?.into_vec() {
+// What git answers in the clones of the two.
+fn rows_of_both(rt: &impl Abort, alloc: Global, main: &World) -> Result<GitRows, AllocError> {
+    let extra = world_of(rt, alloc, NAMED, "clones/extra");
+    let mut rows = main.git_rows(alloc)?;
+    for row in extra.git_rows(alloc)?.into_vec() {
         rows.push(row)?;
     }
-    for row in clones.extra.git_rows(alloc)?.into_vec() {
-        rows.push(row)?;
+    Ok(rows)
+}
+
+// The ports over the clones of the two.
+fn ports_of_both(rt: &impl Abort, alloc: Global) -> Result<Ports, AllocError> {
+    let main = world_of(rt, alloc, NAMING, "clones/main");
+    let git = rows_of_both(rt, alloc, &main)?;
+    let gpgv = main.sig_rows(alloc)?;
+    ports_over(rt, alloc, git, gpgv, NAMING_LIST)
+}
+
+// Whether a value is kept under this key, or none.
+fn is_kept<K: Keeper>(alloc: Global, keeper: &mut K, key: &str, want: bool) -> bool {
+    match keeper.load(alloc, key) {
+        Ok(value) => value.is_some() == want,
+        Err(_) => false,
     }
-    assert!(rt; rows_fit(&rows));
-    MemGit::new(alloc, rows, Numbers::new(alloc), Numbers::new(alloc))
 }
 
-fn gpgv_over(alloc: Global, clones: &Clones) -> Result<MemSig, AllocError> {
-    let mut rows = SigRows::new(alloc);
-    for row in clones.main.sig_rows(alloc)?.into_vec() {
-        rows.push(row)?;
-    }
-    MemSig::new(alloc, rows, Numbers::new(alloc))
-}
-
-// One value at a key.
-fn pair_of(alloc: Global, key: &str, value: &[u8]) -> Result<Pairs, AllocError> {
-    let mut pairs = Pairs::new(alloc);
-    pairs.push(Pair {
-        key: text_of(alloc, key)?,
-        value: Bytes::from_slice(alloc, value)?,
-    })?;
-    Ok(pairs)
-}
-
-// A room with the list of the first, which is fetched from a mirror.
-fn room_with(rt: &impl Abort, alloc: Global, clones: &Clones) -> Result<MemRoom, AllocError> {
-    let Some(introduction) = clones.main.id("i") else {
-        panic!(rt; "it is declared");
-    };
-    let mut digits = [0u8; 40];
-    introduction.write_hex(&mut digits);
-    let mut list = Bytes::from_slice(
-        alloc,
-        b"(list (channel (name 'main) (url \"https://m.example\") (introduction (make-channel-introduction \"",
-    )?;
-    list.extend(&digits)?;
-    list.extend(b"\" (openpgp-fingerprint \"B4754DB47B6A4BC3DCFFB18A9480FD267E05848C\")))))")?;
-    MemRoom::new(
-        alloc,
-        &pair_of(alloc, "list", list.as_slice())?,
-        Numbers::new(alloc),
-    )
-}
-
-fn ports_over(rt: &impl Abort, alloc: Global, clones: &Clones) -> Result<Ports, AllocError> {
-    Ok(Ports {
-        git: git_over(rt, alloc, clones)?,
-        gpgv: gpgv_over(alloc, clones)?,
-        room: room_with(rt, alloc, clones)?,
-        out: MemSink::new(alloc, 4096, Numbers::new(alloc))?,
-        err: MemSink::new(alloc, 4096, Numbers::new(alloc))?,
-    })
-}
-
-// Whether a value is kept under this key.
-fn is_kept<K: Keeper>(alloc: Global, keeper: &mut K, key: &str) -> Result<bool, Fail> {
-    Ok(keeper.load(alloc, key)?.is_some())
-}
-
-// Runs the set over a keeper, and compares the status and whether the pairs of the first channel are kept behind it.
-fn check_set<K: Keeper>(
+// Whether the set over a keeper ends in this status, and behind it the pairs of the first channel are kept, or none of them.
+fn set_ends_in<K: Keeper>(
     rt: &impl Abort,
     alloc: Global,
-    clones: &Clones,
     keeper: &mut K,
     due: u8,
     kept: bool,
-) -> Result<(), Fail> {
-    let mut ports = ports_over(rt, alloc, clones)?;
-    let status = status_of(alloc, "channels list --clones=clones", &mut ports, keeper)?;
-    assert_eq!(rt; status, due);
-    assert_eq!(rt; is_kept(alloc, keeper, "channels/main")?, kept);
-    assert_eq!(rt; is_kept(alloc, keeper, "deployed/main")?, kept);
-    assert!(rt; is_kept(alloc, keeper, "deployed/extra")?);
-    Ok(())
+) -> Result<bool, AllocError> {
+    let mut ports = ports_of_both(rt, alloc)?;
+    let status = status_of(alloc, SET, &mut ports, keeper)?;
+    Ok(
+        status == due
+            && is_kept(alloc, keeper, "channels/main", kept)
+            && is_kept(alloc, keeper, "deployed/main", kept)
+            && is_kept(alloc, keeper, "deployed/extra", true),
+    )
 }
 
-// Over an empty keeper the set is accepted, twice, and all of it is kept.
-fn check_kept<K: Keeper>(
+// Whether over an empty keeper the set is accepted, twice, and all of it is kept.
+fn keeps_whole<K: Keeper>(
     rt: &impl Abort,
     alloc: Global,
-    clones: &Clones,
     keeper: &mut K,
-) -> Result<(), Fail> {
-    check_set(rt, alloc, clones, keeper, 0, true)?;
-    check_set(rt, alloc, clones, keeper, 0, true)
+) -> Result<bool, AllocError> {
+    Ok(set_ends_in(rt, alloc, keeper, 0, true)? && set_ends_in(rt, alloc, keeper, 0, true)?)
 }
 
-// Over a keeper in which the second channel's deployed commit is lost the set is refused, and none of it is kept.
-fn check_lost<K: Keeper>(
+// Whether over a keeper in which the second channel's deployed commit is lost the set is refused, and none of it is kept.
+fn keeps_nothing<K: Keeper>(
     rt: &impl Abort,
     alloc: Global,
-    clones: &Clones,
     keeper: &mut K,
-) -> Result<(), Fail> {
-    let zeros = b"0000000000000000000000000000000000000000\n";
-    keeper.store(&pair_of(alloc, "deployed/extra", zeros)?)?;
-    check_set(rt, alloc, clones, keeper, 1, false)
-}
-
-fn empty_keeper(alloc: Global) -> Result<MemKeeper, AllocError> {
-    MemKeeper::new(alloc, &Pairs::new(alloc), Numbers::new(alloc))
-}
-
-fn clones_of(rt: &impl Abort, alloc: Global) -> Clones {
-    let main = clone_of(rt, alloc, NAMING, "clones/main");
-    let extra = clone_of(rt, alloc, NAMED, "clones/extra");
-    Clones { main, extra }
+) -> Result<bool, AllocError> {
+    let zeros = "0000000000000000000000000000000000000000\n";
+    let lost = pair_of(alloc, "deployed/extra", zeros)?;
+    Ok(keeper.store(&lost) == Ok(()) && set_ends_in(rt, alloc, keeper, 1, false)?)
 }
 
 #[test]
 fn an_accepted_set_is_kept_whole(rt: HostRuntime) -> Result<(), Fail> {
-    let clones = clones_of(&rt, rt.alloc());
-    check_kept(&rt, rt.alloc(), &clones, &mut empty_keeper(rt.alloc())?)?;
-    check_kept(
-        &rt,
-        rt.alloc(),
-        &clones,
-        &mut SqlKeeper::in_memory(rt.alloc())?,
-    )
+    let alloc = rt.alloc();
+    assert!(rt; keeps_whole(&rt, alloc, &mut empty_keeper(alloc)?)?);
+    assert!(rt; keeps_whole(&rt, alloc, &mut SqlKeeper::in_memory(alloc)?)?);
+    Ok(())
 }
 
 #[test]
 fn of_a_refused_set_nothing_is_kept(rt: HostRuntime) -> Result<(), Fail> {
-    let clones = clones_of(&rt, rt.alloc());
-    check_lost(&rt, rt.alloc(), &clones, &mut empty_keeper(rt.alloc())?)?;
-    check_lost(
-        &rt,
-        rt.alloc(),
-        &clones,
-        &mut SqlKeeper::in_memory(rt.alloc())?,
-    )
+    let alloc = rt.alloc();
+    assert!(rt; keeps_nothing(&rt, alloc, &mut empty_keeper(alloc)?)?);
+    assert!(rt; keeps_nothing(&rt, alloc, &mut SqlKeeper::in_memory(alloc)?)?);
+    Ok(())
 }

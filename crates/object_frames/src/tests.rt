@@ -1,6 +1,6 @@
 use crate::{Fetched, FrameFail, Id, Kind, fetch, id_of};
 use child_ports::{Bytes, GitRow, GitRows, MemGit, Numbers, Text, rows_fit};
-use std::alloc::Global;
+use std::alloc::{AllocError, Global};
 use std::process::Abort;
 use std::test::Fail;
 
@@ -9,6 +9,8 @@ const EMPTY: &str = "e69de29bb2d1d6434b8b29ae775ad8c2e48c5391";
 // The same with another last digit.
 const OTHER: &str = "e69de29bb2d1d6434b8b29ae775ad8c2e48c5390";
 
+const DOC_ID: &str = "bd9dbf5aae1a3862dd1526723246b20206e5fc37";
+
 const DOC: &str = "bd9dbf5aae1a3862dd1526723246b20206e5fc37 blob 16\nwhat is up, doc?\n";
 
 fn id(digits: &str) -> Result<Id, Fail> {
@@ -16,7 +18,7 @@ fn id(digits: &str) -> Result<Id, Fail> {
 }
 
 // The bytes of some parts.
-fn joined(alloc: Global, parts: &[&str]) -> Result<Bytes, Fail> {
+fn joined(alloc: Global, parts: &[&str]) -> Result<Bytes, AllocError> {
     let mut bytes = Bytes::new(alloc);
     for part in parts {
         bytes.extend(part.as_bytes())?;
@@ -32,28 +34,31 @@ fn git(
     answer: Bytes,
     fails: &[u64],
     pieces: &[u64],
-) -> Result<MemGit, Fail> {
-    let mut rows = GitRows::new(alloc);
-    let row = GitRow {
-        dir: Text::new(alloc),
-        name: Bytes::from_slice(alloc, name)?,
-        answer,
-    };
-    rows.push(row)?;
-    assert!(rt; rows_fit(&rows), "the row fits");
+) -> Result<MemGit, AllocError> {
     let fails = Numbers::from_slice(alloc, fails)?;
     let pieces = Numbers::from_slice(alloc, pieces)?;
-    Ok(MemGit::new(alloc, rows, fails, pieces)?)
+    let name = Bytes::from_slice(alloc, name)?;
+    let dir = Text::new(alloc);
+    let mut rows = GitRows::new(alloc);
+    rows.push(GitRow { dir, name, answer })?;
+    assert!(rt; rows_fit(&rows), "the row fits");
+    MemGit::new(alloc, rows, fails, pieces)
 }
 
-// The fault of an answer to `v1`, under a limit of 100 bytes.
-fn fault(rt: &impl Abort, alloc: Global, answer: Bytes) -> Result<Option<FrameFail>, Fail> {
+// Whether an answer to `v1` has this fault, under a limit of 100 bytes.
+fn has_fault(
+    rt: &impl Abort,
+    alloc: Global,
+    answer: Bytes,
+    want: FrameFail,
+) -> Result<bool, AllocError> {
     let mut git = git(rt, alloc, b"v1", answer, &[], &[])?;
-    Ok(fetch(alloc, &mut git, "", b"v1", 100).err())
+    let fault = fetch(alloc, &mut git, "", b"v1", 100).err();
+    Ok(fault == Some(want))
 }
 
 // The answer of the document with the lowest bit of one byte changed.
-fn changed(alloc: Global, at: usize) -> Result<Bytes, Fail> {
+fn changed(alloc: Global, at: usize) -> Result<Bytes, AllocError> {
     let mut bytes = Vec::from_slice(alloc, DOC.as_bytes())?;
     if at < bytes.len() {
         bytes[at] ^= 1;
@@ -61,21 +66,27 @@ fn changed(alloc: Global, at: usize) -> Result<Bytes, Fail> {
     Ok(Bytes::from_vec(bytes))
 }
 
+// Whether git's answer in pieces of a size gives the document.
+fn is_found_in_pieces(rt: &impl Abort, alloc: Global, size: u64) -> Result<bool, Fail> {
+    let answer = joined(alloc, &[DOC])?;
+    let mut git = git(rt, alloc, b"v1", answer, &[], &[size; 80])?;
+    Ok(match fetch(alloc, &mut git, "", b"v1", 16)? {
+        Fetched::Found(object) => {
+            object.id == id(DOC_ID)?
+                && object.kind == Kind::Blob
+                && object.content.as_slice() == b"what is up, doc?".as_slice()
+        }
+        Fetched::Missing => false,
+    })
+}
+
 #[test]
 fn a_blob_is_found_in_pieces_of_any_size(rt: HostRuntime) -> Result<(), Fail> {
-    let alloc = rt.alloc();
     for size in [1, 3, 65, 1000] {
-        let mut git = git(&rt, alloc, b"v1", joined(alloc, &[DOC])?, &[], &[size; 80])?;
-        let fetched = fetch(alloc, &mut git, "", b"v1", 16)?;
         assert!(rt;
-            matches!(&fetched, Fetched::Found(_)),
+            is_found_in_pieces(&rt, rt.alloc(), size)?,
             "in pieces of {size}"
         );
-        if let Fetched::Found(object) = fetched {
-            assert_eq!(rt; object.id, id("bd9dbf5aae1a3862dd1526723246b20206e5fc37")?);
-            assert_eq!(rt; object.kind, Kind::Blob);
-            assert_eq!(rt; object.content.as_slice(), b"what is up, doc?".as_slice());
-        }
     }
     Ok(())
 }
@@ -101,31 +112,53 @@ fn nothing_and_more_than_one_thing_are_missing(rt: HostRuntime) -> Result<(), Fa
     Ok(())
 }
 
+// Whether an answer of these parts has this fault.
+fn is_faulty(
+    rt: &impl Abort,
+    alloc: Global,
+    parts: &[&str],
+    want: FrameFail,
+) -> Result<bool, AllocError> {
+    let answer = joined(alloc, parts)?;
+    has_fault(rt, alloc, answer, want)
+}
+
+// The parts of an answer, and the place of the fault in its header.
+static HEADERS: [([&str; 2], u64); 5] = [
+    ([EMPTY, " blub 0\n\n"], 43),
+    ([EMPTY, " blob 00\n\n"], 47),
+    ([EMPTY, " blob 16x\n\n"], 48),
+    ([EMPTY, " blob 1234567890123456789\n"], 64),
+    (["v1 ", "mixing\n"], 5),
+];
+
 #[test]
-fn the_first_fault_of_an_answer_is_told(rt: HostRuntime) -> Result<(), Fail> {
-    let alloc = rt.alloc();
-    let wrong = FrameFail::WrongId {
-        claimed: id(OTHER)?,
-        computed: id(EMPTY)?,
-    };
-    // the parts of the answer, and the fault
-    for (parts, want) in [
-        ([EMPTY, " blub 0\n\n"], FrameFail::Header(43)),
-        ([EMPTY, " blob 00\n\n"], FrameFail::Header(47)),
-        ([EMPTY, " blob 16x\n\n"], FrameFail::Header(48)),
-        (
-            [EMPTY, " blob 1234567890123456789\n"],
-            FrameFail::Header(64),
-        ),
-        (["v1 ", "mixing\n"], FrameFail::Header(5)),
-        ([EMPTY, " blob 101\n"], FrameFail::TooLarge(101)),
-        ([EMPTY, " blob 100\n"], FrameFail::Truncated(50)),
-        ([EMPTY, " blob 0\n!"], FrameFail::NoEnd),
-        ([OTHER, " blob 0\n\n"], wrong),
-    ] {
-        let fault = fault(&rt, alloc, joined(alloc, &parts)?)?;
-        assert_eq!(rt; fault, Some(want), "at {parts:?}");
+fn the_first_fault_of_a_header_is_told(rt: HostRuntime) -> Result<(), Fail> {
+    for (parts, place) in &HEADERS {
+        let want = FrameFail::Header(*place);
+        assert!(rt; is_faulty(&rt, rt.alloc(), parts, want)?, "at {place}");
     }
+    Ok(())
+}
+
+#[test]
+fn a_size_that_is_too_large_or_wrong_is_told(rt: HostRuntime) -> Result<(), Fail> {
+    let alloc = rt.alloc();
+    let too_large = FrameFail::TooLarge(101);
+    let truncated = FrameFail::Truncated(50);
+    assert!(rt; is_faulty(&rt, alloc, &[EMPTY, " blob 101\n"], too_large)?);
+    assert!(rt; is_faulty(&rt, alloc, &[EMPTY, " blob 100\n"], truncated)?);
+    assert!(rt; is_faulty(&rt, alloc, &[EMPTY, " blob 0\n!"], FrameFail::NoEnd)?);
+    Ok(())
+}
+
+#[test]
+fn an_object_of_another_id_than_claimed_is_told(rt: HostRuntime) -> Result<(), Fail> {
+    let answer = joined(rt.alloc(), &[OTHER, " blob 0\n\n"])?;
+    let claimed = id(OTHER)?;
+    let computed = id(EMPTY)?;
+    let want = FrameFail::WrongId { claimed, computed };
+    assert!(rt; has_fault(&rt, rt.alloc(), answer, want)?);
     Ok(())
 }
 
@@ -152,7 +185,7 @@ fn a_failed_call_is_told(rt: HostRuntime) -> Result<(), Fail> {
 fn ids_are_those_of_git(rt: HostRuntime) -> Result<(), Fail> {
     assert_eq!(rt; id_of(Kind::Blob, b""), id(EMPTY)?);
     let doc = id_of(Kind::Blob, b"what is up, doc?");
-    assert_eq!(rt; doc, id("bd9dbf5aae1a3862dd1526723246b20206e5fc37")?);
+    assert_eq!(rt; doc, id(DOC_ID)?);
     Ok(())
 }
 
@@ -161,33 +194,43 @@ fn an_answer_that_is_cut_is_truncated_where_it_ends(rt: HostRuntime) -> Result<(
     let alloc = rt.alloc();
     for n in 0..66usize {
         let answer = Bytes::from_slice(alloc, &DOC.as_bytes()[..n])?;
-        let fault = fault(&rt, alloc, answer)?;
-        assert_eq!(rt; fault, Some(FrameFail::Truncated(n as u64)));
+        let want = FrameFail::Truncated(n as u64);
+        assert!(rt; has_fault(&rt, alloc, answer, want)?, "at {n} bytes");
     }
     Ok(())
 }
 
+// Whether the answer has this fault after one byte was changed.
+fn is_seen(rt: &impl Abort, alloc: Global, at: usize, want: FrameFail) -> Result<bool, AllocError> {
+    let answer = changed(alloc, at)?;
+    has_fault(rt, alloc, answer, want)
+}
+
 #[test]
-fn a_changed_byte_is_seen_where_it_matters(rt: HostRuntime) -> Result<(), Fail> {
+fn a_changed_byte_of_the_frame_is_seen(rt: HostRuntime) -> Result<(), Fail> {
     let alloc = rt.alloc();
-    let claimed = id("bd9dbf5aae1a3862dd1526723246b20206e5fc37")?;
-    // the byte whose lowest bit is changed, and the fault
-    for (at, want) in [
-        (40, FrameFail::Header(40)),
-        (46, FrameFail::Header(47)),
-        (47, FrameFail::Truncated(66)),
-        (48, FrameFail::Header(48)),
-        (65, FrameFail::NoEnd),
-    ] {
-        let answer = changed(alloc, at)?;
-        assert_eq!(rt; fault(&rt, alloc, answer)?, Some(want), "at byte {at}");
-    }
+    assert!(rt; is_seen(&rt, alloc, 40, FrameFail::Header(40))?);
+    assert!(rt; is_seen(&rt, alloc, 46, FrameFail::Header(47))?);
+    assert!(rt; is_seen(&rt, alloc, 47, FrameFail::Truncated(66))?);
+    assert!(rt; is_seen(&rt, alloc, 48, FrameFail::Header(48))?);
+    assert!(rt; is_seen(&rt, alloc, 65, FrameFail::NoEnd)?);
+    Ok(())
+}
+
+// Whether a changed byte of the content gives another id than the one that is claimed.
+fn is_wrong_id(rt: &impl Abort, alloc: Global, at: usize) -> Result<bool, Fail> {
+    let answer = changed(alloc, at)?;
+    assert_eq!(rt; answer.len(), 66);
+    let computed = id_of(Kind::Blob, &answer.as_slice()[49..65]);
+    let claimed = id(DOC_ID)?;
+    let want = FrameFail::WrongId { claimed, computed };
+    Ok(has_fault(rt, alloc, answer, want)?)
+}
+
+#[test]
+fn a_changed_byte_of_the_content_changes_the_id(rt: HostRuntime) -> Result<(), Fail> {
     for at in 49..65 {
-        let answer = changed(alloc, at)?;
-        assert_eq!(rt; answer.len(), 66);
-        let computed = id_of(Kind::Blob, &answer.as_slice()[49..65]);
-        let want = FrameFail::WrongId { claimed, computed };
-        assert_eq!(rt; fault(&rt, alloc, answer)?, Some(want), "at byte {at}");
+        assert!(rt; is_wrong_id(&rt, rt.alloc(), at)?, "at byte {at}");
     }
     Ok(())
 }

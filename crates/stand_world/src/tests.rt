@@ -1,10 +1,12 @@
 //! Worked scripts. The ids and fingerprints were computed by another program.
 use crate::{BuildFail, World, build, toy_status};
-use child_ports::{Bytes, Fingerprint, MemGit, MemSig, Names, Numbers, SigPort, is_name, rows_fit};
+use child_ports::{
+    Bytes, Fingerprint, MemGit, MemSig, Names, Numbers, SigPort, Text, is_name, rows_fit,
+};
 use commit_objects::{Commit, read_commit};
-use keyring_branch::{Keyring, read_keyring};
+use keyring_branch::{Keyring, KeyringFail, read_keyring};
 use object_frames::{Fetched, Id, fetch};
-use std::alloc::Global;
+use std::alloc::{AllocError, Global};
 use std::process::Abort;
 use std::test::Fail;
 
@@ -38,26 +40,32 @@ i
 ";
 
 // Git in memory with the world's rows.
-fn git_in(alloc: Global, world: &World) -> Result<MemGit, Fail> {
+fn git_in(alloc: Global, world: &World) -> Result<MemGit, AllocError> {
     let rows = world.git_rows(alloc)?;
-    let git = MemGit::new(alloc, rows, Numbers::new(alloc), Numbers::new(alloc))?;
-    Ok(git)
+    MemGit::new(alloc, rows, Numbers::new(alloc), Numbers::new(alloc))
 }
 
 // The keyring that the world's branch gives.
-fn keyring_in(rt: &impl Abort, alloc: Global, world: &World) -> Result<Keyring, Fail> {
-    let mut git = git_in(alloc, world)?;
+fn keyring_in(rt: &impl Abort, alloc: Global, world: &World) -> Result<Keyring, KeyringFail> {
     let name = b"refs/heads/keyring^{tree}";
     assert!(rt; is_name(name));
     let mut names = Names::new(alloc);
     names.push(Bytes::from_slice(alloc, name)?)?;
-    Ok(read_keyring(alloc, &mut git, ".", &names)?)
+    let mut git = git_in(alloc, world)?;
+    read_keyring(alloc, &mut git, ".", &names)
+}
+
+// Whether this line of the script is the first at fault.
+fn is_at_fault(alloc: Global, script: &str, line: u64) -> bool {
+    match build(alloc, script.as_bytes(), ".") {
+        Ok(_) => false,
+        Err(fail) => fail == BuildFail::Line(line),
+    }
 }
 
 #[test]
-fn the_first_line_at_fault_is_told(rt: HostRuntime) -> Result<(), Fail> {
-    let alloc = rt.alloc();
-    for (script, line) in [
+fn the_first_line_at_fault_is_told(rt: HostRuntime) {
+    let cases: &[(&str, u64)] = &[
         ("", 1),
         ("\n", 2),
         ("key a\nmeta x\n", 3),
@@ -73,17 +81,24 @@ fn the_first_line_at_fault_is_told(rt: HostRuntime) -> Result<(), Fail> {
         ("meta\n", 1),
         ("meta \n", 1),
         ("tag a\n", 1),
-    ] {
-        let world = build(alloc, script.as_bytes(), ".");
-        assert_eq!(rt; world.err(), Some(BuildFail::Line(line)), "at {script:?}");
+    ];
+    for (place, (script, line)) in cases.iter().enumerate() {
+        assert!(rt; is_at_fault(rt.alloc(), script, *line), "case {place}");
     }
-    Ok(())
+}
+
+// A script whose fourth line is this one.
+fn with_line(alloc: Global, line: &str) -> Result<Text, AllocError> {
+    let mut script = Text::new(alloc);
+    script.push("key a\ncommit i - - -\nbranch n i\n")?;
+    script.push(line)?;
+    script.push("\n")?;
+    Ok(script)
 }
 
 #[test]
 fn a_faulty_commit_or_branch_is_told(rt: HostRuntime) -> Result<(), Fail> {
-    let alloc = rt.alloc();
-    for line in [
+    let lines: &[&str] = &[
         "commit j",
         "commit j - -",
         "commit j - - - -",
@@ -109,18 +124,17 @@ fn a_faulty_commit_or_branch_is_told(rt: HostRuntime) -> Result<(), Fail> {
         "branch m i i",
         "branch M i",
         "branch n i",
-    ] {
-        let script = format!(in alloc; "key a\ncommit i - - -\nbranch n i\n{line}\n")?;
-        let world = build(alloc, script.as_bytes(), ".");
-        assert_eq!(rt; world.err(), Some(BuildFail::Line(4)), "at {line:?}");
+    ];
+    for (place, line) in lines.iter().enumerate() {
+        let script = with_line(rt.alloc(), line)?;
+        assert!(rt; is_at_fault(rt.alloc(), script.as_str(), 4), "case {place}");
     }
     Ok(())
 }
 
 #[test]
 fn lines_of_the_form_are_taken(rt: HostRuntime) -> Result<(), Fail> {
-    let alloc = rt.alloc();
-    for line in [
+    let lines: &[&str] = &[
         "",
         "key i",
         "key abcdefghij012345",
@@ -129,10 +143,11 @@ fn lines_of_the_form_are_taken(rt: HostRuntime) -> Result<(), Fail> {
         "branch i i",
         "meta  x ",
         "meta --",
-    ] {
-        let script = format!(in alloc; "key a\ncommit i - - -\nbranch n i\n{line}\n")?;
-        let world = build(alloc, script.as_bytes(), ".");
-        assert!(rt; world.is_ok(), "at {line:?}");
+    ];
+    for (place, line) in lines.iter().enumerate() {
+        let script = with_line(rt.alloc(), line)?;
+        let world = build(rt.alloc(), script.as_str().as_bytes(), ".");
+        assert!(rt; world.is_ok(), "case {place}");
     }
     Ok(())
 }
@@ -154,45 +169,55 @@ fn commits_have_ids_and_keys_fingerprints(rt: HostRuntime) -> Result<(), Fail> {
     Ok(())
 }
 
+// Whether the world's keyring has these bytes, so many keys, and this tree.
+fn has_keyring(
+    rt: &impl Abort,
+    alloc: Global,
+    world: &World,
+    bytes: &[u8],
+    count: usize,
+    tree: &str,
+) -> bool {
+    match keyring_in(rt, alloc, world) {
+        Ok(keyring) => {
+            keyring.bytes.as_slice() == bytes
+                && keyring.keys.len() == count
+                && Some(keyring.tree) == Id::of_hex(tree.as_bytes())
+        }
+        Err(_) => false,
+    }
+}
+
 #[test]
 fn keys_stand_in_the_order_of_their_files(rt: HostRuntime) -> Result<(), Fail> {
-    let alloc = rt.alloc();
-    let keys = b"\x98\x07\x04\0\0\0\0\x01a\x98\x07\x04\0\0\0\0\x01b".as_slice();
-    // the script, its keyring's bytes, how many keys they are, and the id of their tree
-    for (script, bytes, count, tree) in [
-        (SCRIPT, keys, 2, "0650d7ccfe9444cec150f9f604148914052a1d5e"),
-        (
-            "commit i - - -\n",
-            b"",
-            0,
-            "4b825dc642cb6eb9a060e54bf8d69288fbee4904",
-        ),
-    ] {
-        let world = build(alloc, script.as_bytes(), ".")?;
-        let keyring = keyring_in(&rt, alloc, &world)?;
-        assert_eq!(rt; keyring.bytes.as_slice(), bytes, "of {script:?}");
-        assert_eq!(rt; keyring.keys.len(), count, "of {script:?}");
-        assert_eq!(rt;
-            Some(keyring.tree),
-            Id::of_hex(tree.as_bytes()),
-            "of {script:?}"
-        );
-    }
+    let keys = b"\x98\x07\x04\0\0\0\0\x01a\x98\x07\x04\0\0\0\0\x01b";
+    let tree = "0650d7ccfe9444cec150f9f604148914052a1d5e";
+    let world = build(rt.alloc(), SCRIPT.as_bytes(), ".")?;
+    assert!(rt; has_keyring(&rt, rt.alloc(), &world, keys, 2, tree));
     Ok(())
 }
 
-// The id of the commit that stands under a name, if one does.
-fn commit_under(
+#[test]
+fn a_world_without_keys_has_an_empty_keyring(rt: HostRuntime) -> Result<(), Fail> {
+    let tree = "4b825dc642cb6eb9a060e54bf8d69288fbee4904";
+    let world = build(rt.alloc(), b"commit i - - -\n", ".")?;
+    assert!(rt; has_keyring(&rt, rt.alloc(), &world, b"", 0, tree));
+    Ok(())
+}
+
+// Whether the commit of this name of the world stands under a name of git's; none is called so, where none stands there.
+fn stands_under(
     rt: &impl Abort,
     alloc: Global,
     git: &mut MemGit,
     name: &str,
-) -> Result<Option<Id>, Fail> {
-    let name = name.as_bytes();
-    assert!(rt; is_name(name));
-    match fetch(alloc, git, "w", name, 1_048_576)? {
-        Fetched::Missing => Ok(None),
-        Fetched::Found(object) => Ok(Some(object.id)),
+    commit: Option<Id>,
+) -> bool {
+    assert!(rt; is_name(name.as_bytes()));
+    match fetch(alloc, git, "w", name.as_bytes(), 1_048_576) {
+        Ok(Fetched::Missing) => commit == None,
+        Ok(Fetched::Found(object)) => commit == Some(object.id),
+        Err(_) => false,
     }
 }
 
@@ -200,12 +225,8 @@ fn commit_under(
 fn git_has_the_last_commit_and_the_branches(rt: HostRuntime) -> Result<(), Fail> {
     let alloc = rt.alloc();
     let world = build(alloc, SCRIPT.as_bytes(), "w")?;
-    let rows = world.git_rows(alloc)?;
-    // three trees, two commits with a file and one with two, the names of each commit, HEAD, a branch and the keyring
-    assert_eq!(rt; rows.len(), 3 + 3 + 6 + 1 + 3 + 2 + 4);
-    assert!(rt; rows_fit(&rows));
     let mut git = git_in(alloc, &world)?;
-    for (name, commit) in [
+    let names: &[(&str, &str)] = &[
         ("HEAD^{commit}", "d"),
         ("master^{commit}", "c"),
         ("refs/heads/master^{commit}", "c"),
@@ -214,132 +235,143 @@ fn git_has_the_last_commit_and_the_branches(rt: HostRuntime) -> Result<(), Fail>
         ("f95cd7269964400da5e97384e5f17cb804017df9", "i"),
         ("i^{commit}", ""),
         ("master", ""),
-    ] {
-        let found = commit_under(&rt, alloc, &mut git, name)?;
-        assert_eq!(rt; found, world.id(commit), "under {name}");
+    ];
+    for (place, (name, commit)) in names.iter().enumerate() {
+        let commit = world.id(commit);
+        assert!(rt;
+            stands_under(&rt, alloc, &mut git, name, commit),
+            "case {place}"
+        );
     }
     Ok(())
 }
 
-// What gpgv says of a commit's signature, if it has one.
-fn said_of(alloc: Global, sig: &mut MemSig, commit: &Commit) -> Result<Bytes, Fail> {
-    match &commit.signature {
-        Some(signature) => {
-            Ok(sig.verify(alloc, signature.as_slice(), commit.payload.as_slice())?)
-        }
-        None => Ok(Bytes::new(alloc)),
+#[test]
+fn git_has_a_row_for_each_name_and_object(rt: HostRuntime) -> Result<(), Fail> {
+    let world = build(rt.alloc(), SCRIPT.as_bytes(), "w")?;
+    let rows = world.git_rows(rt.alloc())?;
+    // three trees, two commits with a file and one with two, the names of each commit, HEAD, a branch and the keyring
+    assert_eq!(rt; rows.len(), 3 + 3 + 6 + 1 + 3 + 2 + 4);
+    assert!(rt; rows_fit(&rows));
+    Ok(())
+}
+
+// The commit that stands under a name.
+fn commit_in(rt: &impl Abort, alloc: Global, world: &World, name: &str) -> Option<Commit> {
+    assert!(rt; is_name(name.as_bytes()));
+    let mut git = git_in(alloc, world).ok()?;
+    match fetch(alloc, &mut git, ".", name.as_bytes(), 1_048_576) {
+        Ok(Fetched::Found(object)) => read_commit(alloc, object.content.as_slice()).ok(),
+        _ => None,
     }
 }
 
-// What gpgv in memory says of the commit that stands under a name.
-fn verdict_on(rt: &impl Abort, alloc: Global, world: &World, name: &str) -> Result<Bytes, Fail> {
-    let mut git = git_in(alloc, world)?;
-    let mut sig = MemSig::new(alloc, world.sig_rows(alloc)?, Numbers::new(alloc))?;
-    let keyring = keyring_in(rt, alloc, world)?;
-    sig.load(keyring.bytes.as_slice())?;
-    assert!(rt; is_name(name.as_bytes()));
-    let Fetched::Found(object) = fetch(alloc, &mut git, ".", name.as_bytes(), 1_048_576)? else {
-        return Ok(Bytes::new(alloc));
+// What gpgv in memory says of a commit's signature, under the world's keyring.
+fn verdict_on(rt: &impl Abort, alloc: Global, world: &World, commit: &Commit) -> Option<Bytes> {
+    let signature = commit.signature.as_ref()?;
+    let rows = world.sig_rows(alloc).ok()?;
+    let mut sig = MemSig::new(alloc, rows, Numbers::new(alloc)).ok()?;
+    let keyring = keyring_in(rt, alloc, world).ok()?;
+    sig.load(keyring.bytes.as_slice()).ok()?;
+    sig.verify(alloc, signature.as_slice(), commit.payload.as_slice())
+        .ok()
+}
+
+// Whether gpgv says this of the commit that stands under a name; where nothing is to be said, it has no signature.
+fn gpgv_says(rt: &impl Abort, alloc: Global, world: &World, name: &str, want: &str) -> bool {
+    let Some(commit) = commit_in(rt, alloc, world, name) else {
+        return false;
     };
-    let commit = read_commit(alloc, object.content.as_slice())?;
-    said_of(alloc, &mut sig, &commit)
+    match verdict_on(rt, alloc, world, &commit) {
+        Some(said) => said.as_slice() == want.as_bytes(),
+        None => want.is_empty() && commit.signature.is_none(),
+    }
 }
 
 #[test]
 fn gpgv_finds_the_signatures_of_commits_good(rt: HostRuntime) -> Result<(), Fail> {
     let alloc = rt.alloc();
     let world = build(alloc, SCRIPT.as_bytes(), ".")?;
-    assert_eq!(rt; world.sig_rows(alloc)?.len(), 2);
-    for (name, status) in [
-        (
-            "f95cd7269964400da5e97384e5f17cb804017df9",
-            "[GNUPG:] GOODSIG 9480FD267E05848C toy\n[GNUPG:] VALIDSIG B4754DB47B6A4BC3DCFFB18A9480FD267E05848C 2020-01-01 1577836800 0 4 0 1 8 00 B4754DB47B6A4BC3DCFFB18A9480FD267E05848C\n",
-        ),
-        (
-            "master^{commit}",
-            "[GNUPG:] GOODSIG 3B1A683DE8EFD2BB toy\n[GNUPG:] VALIDSIG C2FBAFFF55AD76422EC303C03B1A683DE8EFD2BB 2020-01-01 1577836800 0 4 0 1 2 00 C2FBAFFF55AD76422EC303C03B1A683DE8EFD2BB\n",
-        ),
-        ("HEAD^{commit}", ""),
-    ] {
-        let said = verdict_on(&rt, alloc, &world, name)?;
-        assert_eq!(rt; said.as_slice(), status.as_bytes(), "of {name}");
-    }
+    let first = "f95cd7269964400da5e97384e5f17cb804017df9";
+    let by_a =
+        "[GNUPG:] GOODSIG 9480FD267E05848C toy\n[GNUPG:] VALIDSIG B4754DB47B6A4BC3DCFFB18A9480FD267E05848C 2020-01-01 1577836800 0 4 0 1 8 00 B4754DB47B6A4BC3DCFFB18A9480FD267E05848C\n";
+    let by_b =
+        "[GNUPG:] GOODSIG 3B1A683DE8EFD2BB toy\n[GNUPG:] VALIDSIG C2FBAFFF55AD76422EC303C03B1A683DE8EFD2BB 2020-01-01 1577836800 0 4 0 1 2 00 C2FBAFFF55AD76422EC303C03B1A683DE8EFD2BB\n";
+    assert!(rt; gpgv_says(&rt, alloc, &world, first, by_a));
+    assert!(rt; gpgv_says(&rt, alloc, &world, "master^{commit}", by_b));
+    assert!(rt; gpgv_says(&rt, alloc, &world, "HEAD^{commit}", ""));
     Ok(())
 }
 
 #[test]
-fn a_signature_has_one_of_four_worths(rt: HostRuntime) -> Result<(), Fail> {
+fn gpgv_has_a_row_for_each_signature(rt: HostRuntime) -> Result<(), Fail> {
+    let world = build(rt.alloc(), SCRIPT.as_bytes(), ".")?;
+    let rows = world.sig_rows(rt.alloc())?;
+    assert_eq!(rt; rows.len(), 2);
+    Ok(())
+}
+
+// Whether gpgv says this of a signature on a payload, under a keyring.
+fn says_toy(alloc: Global, keyring: &[u8], signature: &str, payload: &str, want: &str) -> bool {
+    match toy_status(alloc, keyring, signature.as_bytes(), payload.as_bytes()) {
+        Ok(said) => said.as_slice() == want.as_bytes(),
+        Err(_) => false,
+    }
+}
+
+#[test]
+fn a_signature_has_one_of_four_worths(rt: HostRuntime) {
     let alloc = rt.alloc();
     let key_a = b"\x98\x07\x04\0\0\0\0\x01a".as_slice();
     let key_b = b"\x98\x07\x04\0\0\0\0\x01b".as_slice();
+    let cut = b"\x98\x07\x04";
     let unknown =
         "[GNUPG:] ERRSIG 9480FD267E05848C 1 8 00 0 9\n[GNUPG:] NO_PUBKEY 9480FD267E05848C\n";
     let good =
         "[GNUPG:] GOODSIG 9480FD267E05848C toy\n[GNUPG:] VALIDSIG B4754DB47B6A4BC3DCFFB18A9480FD267E05848C 2020-01-01 1577836800 0 4 0 1 8 00 B4754DB47B6A4BC3DCFFB18A9480FD267E05848C\n";
-    for (keyring, signature, payload, status) in [
-        (key_a, SIGNATURE, PAYLOAD, good),
-        (
-            key_a,
-            SIGNATURE,
-            "i",
-            "[GNUPG:] BADSIG 9480FD267E05848C toy\n",
-        ),
-        (key_b, SIGNATURE, PAYLOAD, unknown),
-        (b"", SIGNATURE, PAYLOAD, unknown),
-        (b"\x98\x07\x04", SIGNATURE, PAYLOAD, unknown),
-        (key_a, PAYLOAD, PAYLOAD, "[GNUPG:] NODATA 1\n"),
-        (key_a, "", PAYLOAD, "[GNUPG:] NODATA 1\n"),
-    ] {
-        let said = toy_status(alloc, keyring, signature.as_bytes(), payload.as_bytes())?;
-        assert_eq!(rt;
-            said.as_slice(),
-            status.as_bytes(),
-            "of {signature:?} on {payload:?}"
-        );
+    let bad = "[GNUPG:] BADSIG 9480FD267E05848C toy\n";
+    let none = "[GNUPG:] NODATA 1\n";
+    assert!(rt; says_toy(alloc, key_a, SIGNATURE, PAYLOAD, good));
+    assert!(rt; says_toy(alloc, key_a, SIGNATURE, "i", bad));
+    assert!(rt; says_toy(alloc, key_b, SIGNATURE, PAYLOAD, unknown));
+    assert!(rt; says_toy(alloc, b"", SIGNATURE, PAYLOAD, unknown));
+    assert!(rt; says_toy(alloc, cut, SIGNATURE, PAYLOAD, unknown));
+    assert!(rt; says_toy(alloc, key_a, PAYLOAD, PAYLOAD, none));
+    assert!(rt; says_toy(alloc, key_a, "", PAYLOAD, none));
+}
+
+// Whether a text of these parts is no signature.
+fn is_none<'x>(
+    alloc: Global,
+    key: &'x str,
+    hash: &'x str,
+    rest: &'x str,
+) -> Result<bool, AllocError> {
+    let mut text = Text::new(alloc);
+    for part in ["TOY SIGNATURE\nkey ", key, "\nhash ", hash, "\nsha1 ", rest] {
+        text.push(part)?;
     }
-    Ok(())
+    Ok(says_toy(alloc, b"", text.as_str(), "", "[GNUPG:] NODATA 1\n"))
 }
 
 #[test]
 fn a_signature_is_one_to_the_byte(rt: HostRuntime) -> Result<(), Fail> {
-    let alloc = rt.alloc();
-    for (key, hash, digest, end) in [
-        (
-            "b4754DB47B6A4BC3DCFFB18A9480FD267E05848C",
-            "8",
-            "3a0ca7936b9a303b80e4f28d477d3401ed4b5a1e",
-            "\n",
-        ),
-        (
-            KEY_A,
-            "08",
-            "3a0ca7936b9a303b80e4f28d477d3401ed4b5a1e",
-            "\n",
-        ),
-        (
-            KEY_A,
-            "256",
-            "3a0ca7936b9a303b80e4f28d477d3401ed4b5a1e",
-            "\n",
-        ),
-        (KEY_A, "8", "3A0ca7936b9a303b80e4f28d477d3401ed4b5a1e", "\n"),
-        (KEY_A, "8", "3a0ca7936b9a303b80e4f28d477d3401ed4b5a1e", ""),
-        (
-            KEY_A,
-            "8",
-            "3a0ca7936b9a303b80e4f28d477d3401ed4b5a1e",
-            "\n\n",
-        ),
-    ] {
-        let signature = format!(in alloc;
-            "TOY SIGNATURE\nkey {key}\nhash {hash}\nsha1 {digest}{end}"
-        )?;
-        let said = toy_status(alloc, b"", signature.as_bytes(), b"")?;
-        assert_eq!(rt;
-            said.as_slice(),
-            b"[GNUPG:] NODATA 1\n".as_slice(),
-            "of {signature:?}"
-        );
+    let lower = "b4754DB47B6A4BC3DCFFB18A9480FD267E05848C";
+    let digest = "3a0ca7936b9a303b80e4f28d477d3401ed4b5a1e\n";
+    let upper = "3A0ca7936b9a303b80e4f28d477d3401ed4b5a1e\n";
+    let open = "3a0ca7936b9a303b80e4f28d477d3401ed4b5a1e";
+    let longer = "3a0ca7936b9a303b80e4f28d477d3401ed4b5a1e\n\n";
+    // the key, the hash, and what follows
+    let cases: &[(&str, &str, &str)] = &[
+        (lower, "8", digest),
+        (KEY_A, "08", digest),
+        (KEY_A, "256", digest),
+        (KEY_A, "8", upper),
+        (KEY_A, "8", open),
+        (KEY_A, "8", longer),
+    ];
+    for (place, (key, hash, rest)) in cases.iter().enumerate() {
+        assert!(rt; is_none(rt.alloc(), key, hash, rest)?, "case {place}");
     }
     Ok(())
 }

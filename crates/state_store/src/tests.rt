@@ -2,39 +2,42 @@
 use crate::SqlKeeper;
 use child_ports::{Bytes, Keeper, Pair, Pairs, PortFail, Text};
 use std::alloc::{AllocError, Global};
-use std::process::Abort;
 use std::rt::Files;
 use std::test::Fail;
 use std::{fs, io};
 
+fn pair_of(alloc: Global, key: &str, value: &str) -> Result<Pair, AllocError> {
+    let value = Bytes::from_slice(alloc, value.as_bytes())?;
+    let mut text = Text::new(alloc);
+    text.push(key)?;
+    Ok(Pair { key: text, value })
+}
+
 fn pairs_of(alloc: Global, rows: &[(&str, &str)]) -> Result<Pairs, AllocError> {
     let mut pairs = Pairs::new(alloc);
     for (key, value) in rows {
-        let mut text = Text::new(alloc);
-        text.push(key)?;
-        pairs.push(Pair {
-            key: text,
-            value: Bytes::from_slice(alloc, value.as_bytes())?,
-        })?;
+        pairs.push(pair_of(alloc, key, value)?)?;
     }
     Ok(pairs)
 }
 
-// A key has this value, or none.
-fn check_value<K: Keeper>(
-    rt: &impl Abort,
-    alloc: Global,
-    keeper: &mut K,
-    key: &str,
-    want: Option<&str>,
-) {
+// Whether a key has this value, or none.
+fn has(alloc: Global, keeper: &mut impl Keeper, key: &str, want: Option<&str>) -> bool {
     match (keeper.load(alloc, key), want) {
-        (Ok(Some(value)), Some(text)) => {
-            assert_eq!(rt; value.as_slice(), text.as_bytes(), "at {key}")
-        }
-        (Ok(None), None) => {}
-        _ => panic!(rt; "at {key}"),
+        (Ok(Some(value)), Some(text)) => value.as_slice() == text.as_bytes(),
+        (Ok(None), None) => true,
+        _ => false,
     }
+}
+
+// Whether pairs are stored.
+fn stores(
+    alloc: Global,
+    keeper: &mut impl Keeper,
+    rows: &[(&str, &str)],
+) -> Result<bool, AllocError> {
+    let pairs = pairs_of(alloc, rows)?;
+    Ok(keeper.store(&pairs) == Ok(()))
 }
 
 // Keys of 200 bytes, each with its number.
@@ -42,59 +45,67 @@ fn numbered(alloc: Global, count: usize) -> Result<Pairs, AllocError> {
     let mut pairs = Pairs::new(alloc);
     for number in 0..count {
         let digits = format!(in alloc; "{number:0>200}")?;
-        let mut key = Text::new(alloc);
-        key.push(digits.as_str())?;
-        pairs.push(Pair {
-            key,
-            value: Bytes::from_slice(alloc, digits.as_bytes())?,
-        })?;
+        pairs.push(pair_of(alloc, digits.as_str(), digits.as_str())?)?;
     }
     Ok(pairs)
 }
 
-// What is stored is loaded again, the last value of a key and the empty one too.
-fn check_keeper<K: Keeper>(rt: &impl Abort, alloc: Global, keeper: &mut K) -> Result<(), Fail> {
-    check_value(rt, alloc, keeper, "a", None);
+// Whether each key has itself as its value.
+fn are_kept(alloc: Global, keeper: &mut impl Keeper, pairs: &Pairs) -> bool {
+    for pair in pairs.as_slice() {
+        let key = pair.key.as_str();
+        if !has(alloc, keeper, key, Some(key)) {
+            return false;
+        }
+    }
+    true
+}
+
+// Whether the last value of a key and the empty one are kept, and nothing more.
+fn has_the_last(alloc: Global, keeper: &mut impl Keeper) -> bool {
+    has(alloc, keeper, "a", Some("2"))
+        && has(alloc, keeper, "deployed/x", Some(""))
+        && has(alloc, keeper, "b", None)
+}
+
+// Whether what is stored is loaded again, after each of three calls.
+fn keeps(alloc: Global, keeper: &mut impl Keeper) -> Result<bool, AllocError> {
+    let before = has(alloc, keeper, "a", None);
+    let rows = [("a", "1"), ("a", "2"), ("deployed/x", "")];
+    let first = stores(alloc, keeper, &rows)? && has_the_last(alloc, keeper);
     let many = numbered(alloc, 512)?;
-    for pairs in [
-        &pairs_of(alloc, &[("a", "1"), ("a", "2"), ("deployed/x", "")])?,
-        &many,
-        &pairs_of(alloc, &[])?,
-    ] {
-        assert_eq!(rt; keeper.store(pairs), Ok(()));
-        check_value(rt, alloc, keeper, "a", Some("2"));
-        check_value(rt, alloc, keeper, "deployed/x", Some(""));
-        check_value(rt, alloc, keeper, "b", None);
-    }
-    for pair in many.as_slice() {
-        check_value(
-            rt,
-            alloc,
-            keeper,
-            pair.key.as_str(),
-            Some(pair.key.as_str()),
-        );
-    }
-    Ok(())
+    let second = keeper.store(&many) == Ok(()) && has_the_last(alloc, keeper);
+    let third = stores(alloc, keeper, &[])? && has_the_last(alloc, keeper);
+    Ok(before && first && second && third && are_kept(alloc, keeper, &many))
 }
 
 #[test]
 fn what_is_stored_is_loaded_from_memory(rt: HostRuntime) -> Result<(), Fail> {
-    check_keeper(&rt, rt.alloc(), &mut SqlKeeper::in_memory(rt.alloc())?)
+    let mut keeper = SqlKeeper::in_memory(rt.alloc())?;
+    assert!(rt; keeps(rt.alloc(), &mut keeper)?);
+    Ok(())
 }
 
 #[test]
 fn what_is_stored_is_loaded_from_a_file_closed_and_opened(rt: HostRuntime) -> Result<(), Fail> {
     let alloc = rt.alloc();
     let mut keeper = SqlKeeper::at(rt, alloc, "made/on/the/way/kept.sqlite")?;
-    check_keeper(&rt, alloc, &mut keeper)?;
+    assert!(rt; keeps(alloc, &mut keeper)?);
     drop(keeper);
     // The file alone has all.
     fs::copy(&rt, "made/on/the/way/kept.sqlite", "copy.sqlite")?;
     let mut copy = SqlKeeper::at(rt, alloc, "copy.sqlite")?;
-    check_value(&rt, alloc, &mut copy, "a", Some("2"));
-    check_value(&rt, alloc, &mut copy, "deployed/x", Some(""));
+    assert!(rt; has_the_last(alloc, &mut copy));
     Ok(())
+}
+
+// Whether both calls fail.
+fn fails(alloc: Global, keeper: &mut impl Keeper) -> Result<bool, AllocError> {
+    let pairs = pairs_of(alloc, &[("a", "two")])?;
+    Ok(
+        matches!(&keeper.load(alloc, "a"), Err(PortFail::Failed))
+            && keeper.store(&pairs) == Err(PortFail::Failed),
+    )
 }
 
 #[test]
@@ -102,16 +113,11 @@ fn a_second_keeper_fails_at_once_and_loses_nothing(rt: HostRuntime) -> Result<()
     let alloc = rt.alloc();
     let mut first = SqlKeeper::at(rt, alloc, "kept.sqlite")?;
     let mut second = SqlKeeper::at(rt, alloc, "kept.sqlite")?;
-    let pairs = pairs_of(alloc, &[("a", "one")])?;
-    assert_eq!(rt; first.store(&pairs), Ok(()));
-    assert!(rt; matches!(&second.load(alloc, "a"), Err(PortFail::Failed)));
-    assert_eq!(rt;
-        second.store(&pairs_of(alloc, &[("a", "two")])?),
-        Err(PortFail::Failed)
-    );
-    check_value(&rt, alloc, &mut first, "a", Some("one"));
+    assert!(rt; stores(alloc, &mut first, &[("a", "one")])?);
+    assert!(rt; fails(alloc, &mut second)?);
+    assert!(rt; has(alloc, &mut first, "a", Some("one")));
     drop(first);
-    check_value(&rt, alloc, &mut second, "a", Some("one"));
+    assert!(rt; has(alloc, &mut second, "a", Some("one")));
     Ok(())
 }
 
@@ -120,14 +126,9 @@ fn is_refused(rt: HostRuntime, path: &str, file: &str) -> Result<bool, Fail> {
     let alloc = rt.alloc();
     let before = fs::read(&rt, file)?;
     let mut keeper = SqlKeeper::at(rt, alloc, path)?;
-    let loaded = keeper.load(alloc, "a");
-    let stored = keeper.store(&pairs_of(alloc, &[("a", "one")])?);
+    let failed = fails(alloc, &mut keeper)?;
     let after = fs::read(&rt, file)?;
-    Ok(
-        matches!(&loaded, Err(PortFail::Failed))
-            && stored == Err(PortFail::Failed)
-            && after.as_slice() == before.as_slice(),
-    )
+    Ok(failed && after.as_slice() == before.as_slice())
 }
 
 #[test]
@@ -152,8 +153,8 @@ fn a_refused_opening_is_tried_again(rt: HostRuntime) -> Result<(), Fail> {
     let mut keeper = SqlKeeper::at(rt, alloc, "kept.sqlite")?;
     assert!(rt; matches!(&keeper.load(alloc, "a"), Err(PortFail::Failed)));
     fs::remove_dir(&rt, "kept.sqlite")?;
-    check_value(&rt, alloc, &mut keeper, "a", None);
-    assert_eq!(rt; keeper.store(&pairs_of(alloc, &[("a", "one")])?), Ok(()));
-    check_value(&rt, alloc, &mut keeper, "a", Some("one"));
+    assert!(rt; has(alloc, &mut keeper, "a", None));
+    assert!(rt; stores(alloc, &mut keeper, &[("a", "one")])?);
+    assert!(rt; has(alloc, &mut keeper, "a", Some("one")));
     Ok(())
 }

@@ -10,7 +10,6 @@ use commit_graph::Graph;
 use object_frames::{Id, IdList, Kind, id_of};
 use std::alloc::{AllocError, Global};
 use std::process::Abort;
-use std::test::Fail;
 
 /// The fingerprint that stands for a number.
 pub fn key(n: u8) -> Fingerprint {
@@ -24,12 +23,79 @@ fn digits(n: u8) -> [u8; 40] {
     digits
 }
 
-fn set_of(alloc: Global, numbers: &[u8]) -> Result<KeySet, AllocError> {
+fn set_of(rt: &impl Abort, alloc: Global, numbers: &[u8]) -> KeySet {
     let mut keys = KeySet::new(alloc);
     for n in numbers {
-        keys.insert(key(*n))?;
+        assert!(rt; keys.insert(key(*n)).is_ok());
     }
-    Ok(keys)
+    keys
+}
+
+// The bytes of some parts.
+fn joined(alloc: Global, parts: &[&[u8]]) -> Result<Bytes, AllocError> {
+    let mut bytes = Bytes::new(alloc);
+    for part in parts {
+        bytes.extend(part)?;
+    }
+    Ok(bytes)
+}
+
+// The answer of git with an object of this name.
+fn frame(alloc: Global, name: &[u8], kind: Kind, content: &[u8]) -> Result<Bytes, AllocError> {
+    let size = format!(in alloc; " {}\n", content.len())?;
+    let mut answer = Bytes::from_slice(alloc, name)?;
+    answer.extend(b" ")?;
+    answer.extend(kind.word())?;
+    answer.extend(size.as_bytes())?;
+    answer.extend(content)?;
+    answer.extend(b"\n")?;
+    Ok(answer)
+}
+
+// What gpgv says of a signature by this key.
+fn verdict(alloc: Global, signer: u8, hash: u8) -> Result<Bytes, AllocError> {
+    let print = digits(signer);
+    let rest = format!(in alloc; " 2020-01-01 1577836800 0 4 0 1 {hash} 00\n")?;
+    joined(alloc, &[b"[GNUPG:] VALIDSIG ", &print, rest.as_bytes()])
+}
+
+// Adds a word and an id.
+fn push_id(text: &mut Bytes, word: &[u8], id: Id) -> Result<(), AllocError> {
+    let mut name = [0u8; 40];
+    id.write_hex(&mut name);
+    text.extend(word)?;
+    text.extend(&name)
+}
+
+// Adds a key to a list.
+fn push_key(text: &mut Bytes, n: u8) -> Result<(), AllocError> {
+    text.extend(b"(\"")?;
+    text.extend(&digits(n))?;
+    text.extend(b"\")")
+}
+
+// The id of an object, for which there was memory.
+fn made(rt: &impl Abort, id: Result<Id, AllocError>) -> Id {
+    match id {
+        Ok(id) => id,
+        Err(_) => panic!(rt; "memory is wanting"),
+    }
+}
+
+fn git_of(
+    rt: &impl Abort,
+    alloc: Global,
+    rows: GitRows,
+    fails: &[u64],
+) -> Result<MemGit, AllocError> {
+    assert!(rt; rows_fit(&rows), "the rows fit");
+    let fails = Numbers::from_slice(alloc, fails)?;
+    MemGit::new(alloc, rows, fails, Numbers::new(alloc))
+}
+
+fn sig_of(alloc: Global, rows: SigRows, fails: &[u64]) -> Result<MemSig, AllocError> {
+    let fails = Numbers::from_slice(alloc, fails)?;
+    MemSig::new(alloc, rows, fails)
 }
 
 /// What git and gpgv answer, and the graph of the commits.
@@ -61,6 +127,14 @@ fn require_family(rt: &impl Abort, graph: &Graph, id: Id)
     }
 }
 
+// The graph takes a commit with these parents.
+fn hold(rt: &impl Abort, alloc: Global, graph: &mut Graph, id: Id, parents: &[Id]) {
+    let Ok(parents) = IdList::from_slice(alloc, parents) else {
+        panic!(rt; "memory is wanting");
+    };
+    assert!(rt; graph.add(id, &parents).is_ok());
+}
+
 impl History {
     pub fn new(alloc: Global) -> History {
         History {
@@ -72,80 +146,55 @@ impl History {
     }
 
     // Git has this object.
-    fn put(&mut self, kind: Kind, content: &[u8]) -> Result<Id, Fail> {
+    fn put(&mut self, kind: Kind, content: &[u8]) -> Result<Id, AllocError> {
         let id = id_of(kind, content);
         let mut name = [0u8; 40];
         id.write_hex(&mut name);
-        let mut answer = Bytes::from_slice(self.alloc, &name)?;
-        answer.extend(b" ")?;
-        answer.extend(kind.word())?;
-        let size = format!(in self.alloc; " {}\n", content.len())?;
-        answer.extend(size.as_bytes())?;
-        answer.extend(content)?;
-        answer.extend(b"\n")?;
+        let answer = frame(self.alloc, &name, kind, content)?;
+        let name = Bytes::from_slice(self.alloc, &name)?;
         self.rows.push(GitRow {
             dir: Text::new(self.alloc),
-            name: Bytes::from_slice(self.alloc, &name)?,
+            name,
             answer,
         })?;
         Ok(id)
     }
 
     /// A blob of this content.
-    pub fn blob(&mut self, content: &[u8]) -> Result<Id, Fail> {
-        self.put(Kind::Blob, content)
+    pub fn blob(&mut self, rt: &impl Abort, content: &[u8]) -> Id {
+        made(rt, self.put(Kind::Blob, content))
+    }
+
+    fn put_file(&mut self, keys: &[u8]) -> Result<Id, AllocError> {
+        let mut text = Bytes::from_slice(self.alloc, b"(authorizations (version 0) (")?;
+        for n in keys {
+            push_key(&mut text, *n)?;
+        }
+        text.extend(b"))")?;
+        self.put(Kind::Blob, text.as_slice())
     }
 
     /// A file that lists these keys.
-    pub fn file(&mut self, keys: &[u8]) -> Result<Id, Fail> {
-        let mut text = Bytes::from_slice(self.alloc, b"(authorizations (version 0) (")?;
-        for n in keys {
-            text.extend(b"(\"")?;
-            text.extend(&digits(*n))?;
-            text.extend(b"\")")?;
-        }
-        text.extend(b"))")?;
-        self.blob(text.as_slice())
+    pub fn file(&mut self, rt: &impl Abort, keys: &[u8]) -> Id {
+        made(rt, self.put_file(keys))
     }
 
-    /// A commit with these parents, of a tree that has this file. The signer 0 stands for none.
-    pub fn commit(
-        &mut self,
-        parents: &[Id],
-        signer: u8,
-        hash: u8,
-        file: Option<Id>,
-    ) -> Result<Id, Fail> {
+    // A tree that has this file.
+    fn put_tree(&mut self, file: Option<Id>) -> Result<Id, AllocError> {
         let mut tree = Bytes::new(self.alloc);
         if let Some(blob) = file {
             tree.extend(b"100644 .guix-authorizations\0")?;
             tree.extend(&blob.bytes())?;
         }
-        let tree = self.put(Kind::Tree, tree.as_slice())?;
-        let head = self.head(tree, parents)?;
-        let mut content = Bytes::from_slice(self.alloc, head.as_slice())?;
-        if signer > 0 {
-            self.sign(signer, hash, head.as_slice())?;
-            content.extend(b"gpgsig ")?;
-            content.extend(&[signer, b'\n'])?;
-        }
-        content.extend(b"\n")?;
-        let id = self.put(Kind::Commit, content.as_slice())?;
-        let parents = IdList::from_slice(self.alloc, parents)?;
-        self.graph.add(id, &parents)?;
-        Ok(id)
+        self.put(Kind::Tree, tree.as_slice())
     }
 
     // The lines before the signature.
-    fn head(&self, tree: Id, parents: &[Id]) -> Result<Bytes, Fail> {
-        let mut name = [0u8; 40];
-        tree.write_hex(&mut name);
-        let mut head = Bytes::from_slice(self.alloc, b"tree ")?;
-        head.extend(&name)?;
+    fn head(&self, tree: Id, parents: &[Id]) -> Result<Bytes, AllocError> {
+        let mut head = Bytes::new(self.alloc);
+        push_id(&mut head, b"tree ", tree)?;
         for parent in parents {
-            parent.write_hex(&mut name);
-            head.extend(b"\nparent ")?;
-            head.extend(&name)?;
+            push_id(&mut head, b"\nparent ", *parent)?;
         }
         let place = format!(in self.alloc; "\nauthor {}\ncommitter c\n", self.graph.len())?;
         head.extend(place.as_bytes())?;
@@ -153,57 +202,85 @@ impl History {
     }
 
     // gpgv says that the key signed what follows these lines.
-    fn sign(&mut self, signer: u8, hash: u8, head: &[u8]) -> Result<(), Fail> {
-        let mut payload = Bytes::from_slice(self.alloc, head)?;
-        payload.extend(b"\n")?;
-        let mut answer = Bytes::from_slice(self.alloc, b"[GNUPG:] VALIDSIG ")?;
-        answer.extend(&digits(signer))?;
-        let rest = format!(in self.alloc; " 2020-01-01 1577836800 0 4 0 1 {hash} 00\n")?;
-        answer.extend(rest.as_bytes())?;
+    fn sign(&mut self, signer: u8, hash: u8, head: &[u8]) -> Result<(), AllocError> {
+        let payload = joined(self.alloc, &[head, b"\n"])?;
+        let answer = verdict(self.alloc, signer, hash)?;
+        let signature = Bytes::from_slice(self.alloc, &[signer, b'\n'])?;
         self.verdicts.push(SigRow {
             keyring: Bytes::new(self.alloc),
-            signature: Bytes::from_slice(self.alloc, &[signer, b'\n'])?,
+            signature,
             payload,
             answer,
-        })?;
-        Ok(())
+        })
+    }
+
+    // What a commit with these lines holds.
+    fn content(&mut self, signer: u8, hash: u8, head: &[u8]) -> Result<Bytes, AllocError> {
+        if signer == 0 {
+            return joined(self.alloc, &[head, b"\n"]);
+        }
+        self.sign(signer, hash, head)?;
+        joined(self.alloc, &[head, b"gpgsig ", &[signer, b'\n'], b"\n"])
+    }
+
+    fn put_commit(
+        &mut self,
+        parents: &[Id],
+        signer: u8,
+        hash: u8,
+        file: Option<Id>,
+    ) -> Result<Id, AllocError> {
+        let tree = self.put_tree(file)?;
+        let head = self.head(tree, parents)?;
+        let content = self.content(signer, hash, head.as_slice())?;
+        self.put(Kind::Commit, content.as_slice())
+    }
+
+    /// A commit with these parents, of a tree that has this file. The signer 0 stands for none.
+    pub fn commit(
+        &mut self,
+        rt: &impl Abort,
+        parents: &[Id],
+        signer: u8,
+        hash: u8,
+        file: Option<Id>,
+    ) -> Id {
+        let id = made(rt, self.put_commit(parents, signer, hash, file));
+        hold(rt, self.alloc, &mut self.graph, id, parents);
+        id
     }
 
     /// The ports. Git fails at the calls of these numbers, gpgv at those of others.
-    pub fn open(
-        self,
-        rt: &impl Abort,
-        git_fails: &[u64],
-        sig_fails: &[u64],
-    ) -> Result<Opened, Fail> {
+    pub fn open(self, rt: &impl Abort, git_fails: &[u64], sig_fails: &[u64]) -> Opened {
         let History {
             alloc,
             rows,
             verdicts,
             graph,
         } = self;
-        assert!(rt; rows_fit(&rows), "the rows fit");
-        let git_fails = Numbers::from_slice(alloc, git_fails)?;
-        let git = MemGit::new(alloc, rows, git_fails, Numbers::new(alloc))?;
-        let sig_fails = Numbers::from_slice(alloc, sig_fails)?;
-        let sig = MemSig::new(alloc, verdicts, sig_fails)?;
-        Ok(Opened {
+        let Ok(git) = git_of(rt, alloc, rows, git_fails) else {
+            panic!(rt; "memory is wanting");
+        };
+        let Ok(sig) = sig_of(alloc, verdicts, sig_fails) else {
+            panic!(rt; "memory is wanting");
+        };
+        Opened {
             alloc,
             git,
             sig,
             graph,
-        })
+        }
     }
 }
 
 impl Opened {
-    fn scope(&self, intro: Id, historical: &[u8]) -> Result<Scope, Fail> {
-        Ok(Scope {
+    fn scope(&self, rt: &impl Abort, intro: Id, historical: &[u8]) -> Scope {
+        Scope {
             intro,
             signer: key(1),
             keyring_tree: intro,
-            historical: set_of(self.alloc, historical)?,
-        })
+            historical: set_of(rt, self.alloc, historical),
+        }
     }
 
     /// The answer on a commit, under the keyring of the keys 1 to 3 and these historical keys.
@@ -212,11 +289,11 @@ impl Opened {
         rt: &impl Abort,
         historical: &[u8],
         id: Id,
-    ) -> Result<Result<Fingerprint, RuleFail>, Fail> {
-        let scope = self.scope(id, historical)?;
-        let keys = set_of(self.alloc, &[1, 2, 3])?;
+    ) -> Result<Fingerprint, RuleFail> {
+        let scope = self.scope(rt, id, historical);
+        let keys = set_of(rt, self.alloc, &[1, 2, 3]);
         require_family(rt, &self.graph, id);
-        Ok(check_commit(
+        check_commit(
             self.alloc,
             &mut self.git,
             &mut self.sig,
@@ -225,13 +302,13 @@ impl Opened {
             &keys,
             &self.graph,
             id,
-        ))
+        )
     }
 
     /// The answer on an introduction that key 1 has to have signed.
-    pub fn judge_intro(&mut self, intro: Id) -> Result<Result<(), RuleFail>, Fail> {
-        let scope = self.scope(intro, &[])?;
-        let keys = set_of(self.alloc, &[1, 2, 3])?;
-        Ok(check_intro(self.alloc, &mut self.git, &mut self.sig, "", &scope, &keys))
+    pub fn judge_intro(&mut self, rt: &impl Abort, intro: Id) -> Result<(), RuleFail> {
+        let scope = self.scope(rt, intro, &[]);
+        let keys = set_of(rt, self.alloc, &[1, 2, 3]);
+        check_intro(self.alloc, &mut self.git, &mut self.sig, "", &scope, &keys)
     }
 }

@@ -2,15 +2,12 @@
 use crate::run_authenticate;
 use auth_words::{Command, read_words};
 use child_ports::{
-    Bytes, Fingerprint, GitRows, Keeper, MemGit, MemKeeper, MemRoom, MemSig, MemSink, Numbers,
-    Pair, Pairs, Text, Words, rows_fit,
+    Bytes, GitRows, Keeper, MemGit, MemKeeper, MemRoom, MemSig, MemSink, Numbers, Pair, Pairs,
+    Text, Words, rows_fit,
 };
-use object_frames::Id;
 use stand_world::{World, build};
 use std::alloc::{AllocError, Global};
-use std::process::Abort;
 use std::str;
-use std::test::Fail;
 
 /// What ports do in a run: the numbers of the calls that fail, the room of standard output, and the name that git has lost.
 #[derive(Clone, Copy, Debug)]
@@ -50,59 +47,24 @@ pub fn quiet(asked: u64) -> Want {
     }
 }
 
-/// The world of a script.
-pub fn world_of(rt: &impl Abort, alloc: Global, script: &str) -> World {
-    match build(alloc, script.as_bytes(), ".") {
-        Ok(world) => world,
-        Err(_) => panic!(rt; "a script is at fault: {script}"),
+// Adds what a name in brackets stands for. One that isn't declared stands for forty `?`, which no run shows.
+fn push_named(text: &mut Text, world: &World, name: &str) -> Result<(), AllocError> {
+    let mut digits = [b'?'; 40];
+    if let Some(key) = name.strip_prefix("key ") {
+        if let Some(key) = world.key(key) {
+            key.write_hex(&mut digits);
+        }
+    } else if let Some(id) = world.id(name) {
+        id.write_hex(&mut digits);
     }
-}
-
-fn push_digits(rt: &impl Abort, text: &mut Text, digits: &[u8; 40]) -> Result<(), AllocError> {
-    match str::from_utf8(digits) {
+    match str::from_utf8(&digits) {
         Ok(digits) => text.push(digits),
-        Err(_) => panic!(rt; "digits are ASCII"),
-    }
-}
-
-fn push_id(rt: &impl Abort, text: &mut Text, id: Option<Id>) -> Result<(), AllocError> {
-    let Some(id) = id else {
-        panic!(rt; "a commit is declared");
-    };
-    let mut digits = [0u8; 40];
-    id.write_hex(&mut digits);
-    push_digits(rt, text, &digits)
-}
-
-fn push_key(rt: &impl Abort, text: &mut Text, key: Option<Fingerprint>) -> Result<(), AllocError> {
-    let Some(key) = key else {
-        panic!(rt; "a key is declared");
-    };
-    let mut digits = [0u8; 40];
-    key.write_hex(&mut digits);
-    push_digits(rt, text, &digits)
-}
-
-// Adds what a name in brackets stands for.
-fn push_named(
-    rt: &impl Abort,
-    text: &mut Text,
-    world: &World,
-    name: &str,
-) -> Result<(), AllocError> {
-    match name.strip_prefix("key ") {
-        Some(key) => push_key(rt, text, world.key(key)),
-        None => push_id(rt, text, world.id(name)),
+        Err(_) => text.push("?"),
     }
 }
 
 /// A text with its names replaced by what they stand for.
-pub fn expanded(
-    rt: &impl Abort,
-    alloc: Global,
-    world: &World,
-    pattern: &str,
-) -> Result<Text, AllocError> {
+pub fn expanded(alloc: Global, world: &World, pattern: &str) -> Result<Text, AllocError> {
     let mut text = Text::new(alloc);
     let mut first = true;
     for piece in pattern.split('<') {
@@ -110,7 +72,7 @@ pub fn expanded(
         if first {
             text.push(piece)?;
         } else {
-            push_named(rt, &mut text, world, halves.next().unwrap_or(""))?;
+            push_named(&mut text, world, halves.next().unwrap_or(""))?;
             text.push(halves.next().unwrap_or(""))?;
         }
         first = false;
@@ -142,12 +104,10 @@ pub fn empty_keeper(alloc: Global, fails: u64) -> Result<MemKeeper, AllocError> 
 }
 
 fn pair_of(alloc: Global, key: &str, value: &[u8]) -> Result<Pair, AllocError> {
+    let value = Bytes::from_slice(alloc, value)?;
     let mut text = Text::new(alloc);
     text.push(key)?;
-    Ok(Pair {
-        key: text,
-        value: Bytes::from_slice(alloc, value)?,
-    })
+    Ok(Pair { key: text, value })
 }
 
 /// A keeper that has this value under this key.
@@ -158,15 +118,10 @@ pub fn keeper_with(alloc: Global, key: &str, value: &[u8]) -> Result<MemKeeper, 
 }
 
 // The one file `h`, unless there is none.
-fn room_of(
-    rt: &impl Abort,
-    alloc: Global,
-    world: &World,
-    file: &str,
-) -> Result<MemRoom, AllocError> {
+fn room_of(alloc: Global, world: &World, file: &str) -> Result<MemRoom, AllocError> {
     let mut files = Pairs::new(alloc);
     if !file.is_empty() {
-        let text = expanded(rt, alloc, world, file)?;
+        let text = expanded(alloc, world, file)?;
         files.push(pair_of(alloc, "h", text.as_str().as_bytes())?)?;
     }
     MemRoom::new(alloc, &files, Numbers::new(alloc))
@@ -183,26 +138,27 @@ fn rows_without(alloc: Global, world: &World, lost: &str) -> Result<GitRows, All
     Ok(rows)
 }
 
-fn git_of(
-    rt: &impl Abort,
-    alloc: Global,
-    world: &World,
-    fails: u64,
-    lost: &str,
-) -> Result<MemGit, AllocError> {
-    let rows = rows_without(alloc, world, lost)?;
-    assert!(rt; rows_fit(&rows));
-    MemGit::new(alloc, rows, only(alloc, fails)?, Numbers::new(alloc))
+// Git over the world's answers, but for that to a name. No run is compared where they don't fit.
+fn git_of(alloc: Global, world: &World, outside: &Outside) -> Result<MemGit, AllocError> {
+    let fails = only(alloc, outside.git_fails)?;
+    let rows = rows_without(alloc, world, outside.lost)?;
+    if !rows_fit(&rows) {
+        return Err(AllocError);
+    }
+    MemGit::new(alloc, rows, fails, Numbers::new(alloc))
 }
 
 // gpgv over the world's verdicts.
 fn gpgv_of(alloc: Global, world: &World, fails: u64) -> Result<MemSig, AllocError> {
-    MemSig::new(alloc, world.sig_rows(alloc)?, only(alloc, fails)?)
+    let fails = only(alloc, fails)?;
+    let rows = world.sig_rows(alloc)?;
+    MemSig::new(alloc, rows, fails)
 }
 
 // A sink with this room.
 fn sink_of(alloc: Global, room: usize, fails: u64) -> Result<MemSink, AllocError> {
-    MemSink::new(alloc, room, only(alloc, fails)?)
+    let fails = only(alloc, fails)?;
+    MemSink::new(alloc, room, fails)
 }
 
 // The ports of a run, but for its keeper.
@@ -217,15 +173,14 @@ struct Ports {
 
 // Ports over a world and a file.
 fn ports_of(
-    rt: &impl Abort,
     alloc: Global,
     world: &World,
     file: &str,
-    outside: Outside,
+    outside: &Outside,
 ) -> Result<Ports, AllocError> {
-    let git = git_of(rt, alloc, world, outside.git_fails, outside.lost)?;
+    let git = git_of(alloc, world, outside)?;
     let gpgv = gpgv_of(alloc, world, outside.gpgv_fails)?;
-    let room = room_of(rt, alloc, world, file)?;
+    let room = room_of(alloc, world, file)?;
     let out = sink_of(alloc, outside.out_room, 0)?;
     let err = sink_of(alloc, 65_536, outside.err_fails)?;
     Ok(Ports {
@@ -240,11 +195,11 @@ fn ports_of(
 // The status of words over these ports.
 fn status_of(
     alloc: Global,
-    line: &Text,
+    line: &str,
     ports: &mut Ports,
     keeper: &mut MemKeeper,
 ) -> Result<u8, AllocError> {
-    let words = words_in(alloc, line.as_str())?;
+    let words = words_in(alloc, line)?;
     match read_words(alloc, &words)? {
         Some(Command::Authenticate(plan)) => Ok(run_authenticate(
             alloc,
@@ -260,85 +215,57 @@ fn status_of(
     }
 }
 
-// What a sink has taken is this text, with its names replaced.
-fn check_text(
-    rt: &impl Abort,
-    alloc: Global,
-    world: &World,
-    sink: &MemSink,
-    want: &str,
-    words: &str,
-) -> Result<(), AllocError> {
-    let text = expanded(rt, alloc, world, want)?;
-    assert_eq!(rt;
-        sink.taken(),
-        text.as_str().as_bytes(),
-        "what is shown of {words}"
-    );
-    Ok(())
-}
-
-// What was shown is what is wanted.
-fn check_shown(
-    rt: &impl Abort,
-    alloc: Global,
-    world: &World,
-    ports: &Ports,
-    words: &str,
-    want: Want,
-) -> Result<(), AllocError> {
-    assert_eq!(rt; ports.gpgv.asked(), want.asked, "the questions of {words}");
-    check_text(rt, alloc, world, &ports.err, want.err, words)?;
-    check_text(rt, alloc, world, &ports.out, want.out, words)
-}
-
-/// Runs words over a world, a file `h` and a keeper, and compares what is shown.
-pub fn check(
-    rt: &impl Abort,
-    alloc: Global,
-    world: &World,
-    file: &str,
-    keeper: &mut MemKeeper,
-    outside: Outside,
-    words: &str,
-    want: Want,
-) -> Result<(), AllocError> {
-    let line = expanded(rt, alloc, world, words)?;
-    let mut ports = ports_of(rt, alloc, world, file, outside)?;
-    let status = status_of(alloc, &line, &mut ports, keeper)?;
-    assert_eq!(rt; status, want.status, "the status of {words}");
-    check_shown(rt, alloc, world, &ports, words, want)
-}
-
-/// The same of a script, with a keeper that has no records.
-pub fn check_script(
-    rt: &impl Abort,
-    alloc: Global,
-    script: &str,
-    file: &str,
-    words: &str,
-    want: Want,
-) -> Result<(), AllocError> {
-    let world = world_of(rt, alloc, script);
-    let mut keeper = empty_keeper(alloc, 0)?;
-    check(rt, alloc, &world, file, &mut keeper, WELL, words, want)
-}
-
-/// What is kept under a key is this, or nothing.
-pub fn check_kept(
-    rt: &impl Abort,
-    alloc: Global,
-    keeper: &mut MemKeeper,
-    key: &str,
-    want: Option<&str>,
-) -> Result<(), Fail> {
-    let found = keeper.load(alloc, key)?;
-    match (&found, want) {
-        (Some(value), Some(want)) => {
-            assert_eq!(rt; value.as_slice(), want.as_bytes(), "what is kept")
-        }
-        (None, None) => (),
-        _ => panic!(rt; "what is kept is another"),
+// Whether bytes are this text, with its names replaced.
+fn is_text(alloc: Global, world: &World, bytes: &[u8], want: &str) -> bool {
+    match expanded(alloc, world, want) {
+        Ok(text) => bytes == text.as_str().as_bytes(),
+        Err(_) => false,
     }
-    Ok(())
+}
+
+/// Whether words over a world, a file `h` and a keeper show what is wanted.
+pub fn shows(
+    alloc: Global,
+    world: &World,
+    file: &str,
+    keeper: &mut MemKeeper,
+    outside: &Outside,
+    words: &str,
+    want: &Want,
+) -> bool {
+    let Ok(line) = expanded(alloc, world, words) else {
+        return false;
+    };
+    let Ok(mut ports) = ports_of(alloc, world, file, outside) else {
+        return false;
+    };
+    let Ok(status) = status_of(alloc, line.as_str(), &mut ports, keeper) else {
+        return false;
+    };
+    status == want.status
+        && ports.gpgv.asked() == want.asked
+        && is_text(alloc, world, ports.err.taken(), want.err)
+        && is_text(alloc, world, ports.out.taken(), want.out)
+}
+
+/// The same of a script, where no call fails and nothing is kept before.
+pub fn script_shows(alloc: Global, script: &str, file: &str, words: &str, want: &Want) -> bool {
+    let Ok(world) = build(alloc, script.as_bytes(), ".") else {
+        return false;
+    };
+    match empty_keeper(alloc, 0) {
+        Ok(mut keeper) => shows(alloc, &world, file, &mut keeper, &WELL, words, want),
+        Err(_) => false,
+    }
+}
+
+/// Whether this text is kept under a key, with the names of both replaced.
+pub fn keeps(alloc: Global, world: &World, keeper: &mut MemKeeper, key: &str, want: &str) -> bool {
+    let Ok(key) = expanded(alloc, world, key) else {
+        return false;
+    };
+    match keeper.load(alloc, key.as_str()) {
+        Ok(Some(value)) => is_text(alloc, world, value.as_slice(), want),
+        _ => false,
+    }
 }

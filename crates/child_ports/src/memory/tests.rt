@@ -1,19 +1,36 @@
 use crate::{
     Bytes, Failed, FileRoom, GitPort, GitRow, GitRows, Keeper, MemGit, MemKeeper, MemRoom, MemSig,
-    MemSink, Numbers, Pair, Pairs, PortFail, SigPort, SigRow, SigRows, Sink, Text, rows_fit,
+    MemSink, Numbers, Pair, Pairs, PortFail, SigPort, SigRow, SigRows, Sink, Text, is_name,
+    rows_fit,
 };
-use std::alloc::Global;
+use std::alloc::{AllocError, Global};
 use std::process::Abort;
 use std::test::Fail;
 
-fn numbers(alloc: Global, from: &[u64]) -> Result<Numbers, Fail> {
-    Ok(Numbers::from_slice(alloc, from)?)
-}
-
-fn text(alloc: Global, from: &str) -> Result<Text, Fail> {
+fn text(alloc: Global, from: &str) -> Result<Text, AllocError> {
     let mut text = Text::new(alloc);
     text.push(from)?;
     Ok(text)
+}
+
+fn bytes(alloc: Global, from: &str) -> Result<Bytes, AllocError> {
+    Bytes::from_slice(alloc, from.as_bytes())
+}
+
+// A row for the directory `d`.
+fn git_row(alloc: Global, name: &str, answer: &str) -> Result<GitRow, AllocError> {
+    let dir = text(alloc, "d")?;
+    let name = bytes(alloc, name)?;
+    let answer = bytes(alloc, answer)?;
+    Ok(GitRow { dir, name, answer })
+}
+
+fn git_rows(alloc: Global, from: &[(&str, &str)]) -> Result<GitRows, AllocError> {
+    let mut rows = GitRows::new(alloc);
+    for (name, answer) in from {
+        rows.push(git_row(alloc, name, answer)?)?;
+    }
+    Ok(rows)
 }
 
 // Git with these rows, all for the directory `d`.
@@ -23,36 +40,34 @@ fn git(
     rows: &[(&str, &str)],
     fails: &[u64],
     pieces: &[u64],
-) -> Result<MemGit, Fail> {
-    let mut made = GitRows::new(alloc);
-    for (name, answer) in rows {
-        made.push(GitRow {
-            dir: text(alloc, "d")?,
-            name: Bytes::from_slice(alloc, name.as_bytes())?,
-            answer: Bytes::from_slice(alloc, answer.as_bytes())?,
-        })?;
+) -> Result<MemGit, AllocError> {
+    let fails = Numbers::from_slice(alloc, fails)?;
+    let pieces = Numbers::from_slice(alloc, pieces)?;
+    let rows = git_rows(alloc, rows)?;
+    assert!(rt; rows_fit(&rows), "the rows fit");
+    MemGit::new(alloc, rows, fails, pieces)
+}
+
+// Whether git answers this to a name, in one piece.
+fn git_says(git: &mut MemGit, dir: &str, name: &str, want: &str) -> bool {
+    if !is_name(name.as_bytes()) || git.ask(dir, name.as_bytes()) != Ok(()) {
+        return false;
     }
-    assert!(rt; rows_fit(&made), "the rows fit");
-    Ok(MemGit::new(alloc, made, numbers(alloc, fails)?, numbers(alloc, pieces)?)?)
+    let mut buf = [0u8; 64];
+    let Ok(n) = git.read(&mut buf) else {
+        return false;
+    };
+    &buf[..n] == want.as_bytes() && git.read(&mut buf) == Ok(0)
 }
 
 #[test]
 fn git_answers_by_the_first_row_and_says_missing_without_one(rt: HostRuntime) -> Result<(), Fail> {
     let rows = [("a", "a ambiguous\n"), ("a", "other"), ("b", "b missing\n")];
     let mut git = git(&rt, rt.alloc(), &rows, &[], &[])?;
-    // the directory, the name, and the answer
-    for (dir, name, want) in [
-        ("d", "a", "a ambiguous\n"),
-        ("d", "b", "b missing\n"),
-        ("d", "c", "c missing\n"),
-        ("e", "a", "a missing\n"),
-    ] {
-        assert_eq!(rt; git.ask(dir, name.as_bytes()), Ok(()));
-        let mut buf = [0u8; 64];
-        let n = git.read(&mut buf).map_err(|_| "the read failed")?;
-        assert_eq!(rt; &buf[..n], want.as_bytes(), "at {name}");
-        assert_eq!(rt; git.read(&mut buf), Ok(0), "at the end of {name}");
-    }
+    assert!(rt; git_says(&mut git, "d", "a", "a ambiguous\n"));
+    assert!(rt; git_says(&mut git, "d", "b", "b missing\n"));
+    assert!(rt; git_says(&mut git, "d", "c", "c missing\n"));
+    assert!(rt; git_says(&mut git, "e", "a", "a missing\n"));
     Ok(())
 }
 
@@ -80,73 +95,110 @@ fn git_fails_at_the_calls_of_its_script_alone(rt: HostRuntime) -> Result<(), Fai
     Ok(())
 }
 
+// Whether asking a name is answered so, and this many names were asked by then.
+fn asks(git: &mut MemGit, name: &str, want: Result<(), Failed>, named: u64) -> bool {
+    is_name(name.as_bytes()) && git.ask("d", name.as_bytes()) == want && git.named() == named
+}
+
 #[test]
 fn git_counts_the_names_that_are_no_ids_in_full(rt: HostRuntime) -> Result<(), Fail> {
-    let mut git = git(&rt, rt.alloc(), &[], &[3], &[])?;
-    // the name, whether it can be asked, and how many names were asked by then
-    for (name, want, named) in [
-        ("0123456789abcdef0123456789abcdef01234567", Ok(()), 0),
-        ("refs/heads/keyring", Ok(()), 1),
-        ("refs/heads/keyring", Err(Failed), 2),
-        ("0123456789ABCDEF0123456789ABCDEF01234567", Ok(()), 3),
-        ("0123456789abcdef0123456789abcdef0123456", Ok(()), 4),
-    ] {
-        assert_eq!(rt; git.ask("d", name.as_bytes()), want, "at {name}");
-        assert_eq!(rt; git.named(), named, "after {name}");
-    }
+    let git = &mut git(&rt, rt.alloc(), &[], &[3], &[])?;
+    assert!(rt; asks(git, "0123456789abcdef0123456789abcdef01234567", Ok(()), 0));
+    assert!(rt; asks(git, "refs/heads/keyring", Ok(()), 1));
+    assert!(rt; asks(git, "refs/heads/keyring", Err(Failed), 2));
+    assert!(rt; asks(git, "0123456789ABCDEF0123456789ABCDEF01234567", Ok(()), 3));
+    assert!(rt; asks(git, "0123456789abcdef0123456789abcdef0123456", Ok(()), 4));
     Ok(())
+}
+
+// A row of the signature `s` on the payload `p`.
+fn sig_row(alloc: Global, keyring: &str, answer: &str) -> Result<SigRow, AllocError> {
+    let keyring = bytes(alloc, keyring)?;
+    let signature = bytes(alloc, "s")?;
+    let payload = bytes(alloc, "p")?;
+    let answer = bytes(alloc, answer)?;
+    Ok(SigRow {
+        keyring,
+        signature,
+        payload,
+        answer,
+    })
+}
+
+// gpgv with two rows for one question and one for another, which fails at its third and sixth call.
+fn sig(alloc: Global) -> Result<MemSig, AllocError> {
+    let fails = Numbers::from_slice(alloc, &[3, 6])?;
+    let mut rows = SigRows::new(alloc);
+    rows.push(sig_row(alloc, "k", "first")?)?;
+    rows.push(sig_row(alloc, "k", "second")?)?;
+    rows.push(sig_row(alloc, "l", "other")?)?;
+    MemSig::new(alloc, rows, fails)
+}
+
+// Whether gpgv says this of a payload. Nothing stands for a call that failed.
+fn gpgv_says(alloc: Global, sig: &mut MemSig, payload: &str, want: Option<&str>) -> bool {
+    match (sig.verify(alloc, b"s", payload.as_bytes()), want) {
+        (Ok(status), Some(want)) => status.as_slice() == want.as_bytes(),
+        (Err(_), None) => true,
+        _ => false,
+    }
 }
 
 #[test]
 fn gpgv_says_what_its_rows_say_and_counts_its_questions(rt: HostRuntime) -> Result<(), Fail> {
     let alloc = rt.alloc();
-    let mut rows = SigRows::new(alloc);
-    for (keyring, signature, payload, answer) in [
-        ("k", "s", "p", "first"),
-        ("k", "s", "p", "second"),
-        ("l", "s", "p", "other"),
-    ] {
-        rows.push(SigRow {
-            keyring: Bytes::from_slice(alloc, keyring.as_bytes())?,
-            signature: Bytes::from_slice(alloc, signature.as_bytes())?,
-            payload: Bytes::from_slice(alloc, payload.as_bytes())?,
-            answer: Bytes::from_slice(alloc, answer.as_bytes())?,
-        })?;
-    }
-    let mut sig = MemSig::new(alloc, rows, numbers(alloc, &[3, 6])?)?;
+    let mut sig = sig(alloc)?;
     assert_eq!(rt; sig.load(b"k"), Ok(()));
-    // the payload, and the answer of the second to the fifth call
-    for (payload, want) in [
-        ("p", Some("first")),
-        ("p", None),
-        ("q", Some("")),
-        ("p", Some("first")),
-    ] {
-        let status = sig.verify(alloc, b"s", payload.as_bytes());
-        assert_eq!(rt;
-            status.as_ref().map(|s| s.as_slice()).ok(),
-            want.map(|w| w.as_bytes()),
-            "at {payload}"
-        );
-    }
+    assert!(rt; gpgv_says(alloc, &mut sig, "p", Some("first")));
+    assert!(rt; gpgv_says(alloc, &mut sig, "p", None));
+    assert!(rt; gpgv_says(alloc, &mut sig, "q", Some("")));
+    assert!(rt; gpgv_says(alloc, &mut sig, "p", Some("first")));
     assert_eq!(rt; sig.load(b"l"), Err(PortFail::Failed));
     assert_eq!(rt; sig.load(b"l"), Ok(()));
-    let status = sig.verify(alloc, b"s", b"p")?;
-    assert_eq!(rt; status.as_slice(), b"other".as_slice());
+    assert!(rt; gpgv_says(alloc, &mut sig, "p", Some("other")));
     assert_eq!(rt; sig.asked(), 5, "with the one that failed");
     Ok(())
 }
 
+fn pair(alloc: Global, key: &str, value: &str) -> Result<Pair, AllocError> {
+    let key = text(alloc, key)?;
+    let value = bytes(alloc, value)?;
+    Ok(Pair { key, value })
+}
+
 // Pairs of texts.
-fn pairs(alloc: Global, from: &[(&str, &str)]) -> Result<Pairs, Fail> {
+fn pairs(alloc: Global, from: &[(&str, &str)]) -> Result<Pairs, AllocError> {
     let mut pairs = Pairs::new(alloc);
     for (key, value) in from {
-        pairs.push(Pair {
-            key: text(alloc, key)?,
-            value: Bytes::from_slice(alloc, value.as_bytes())?,
-        })?;
+        pairs.push(pair(alloc, key, value)?)?;
     }
     Ok(pairs)
+}
+
+// A keeper of these pairs, which fails at its fifth call.
+fn keeper(alloc: Global, from: &[(&str, &str)]) -> Result<MemKeeper, AllocError> {
+    let fails = Numbers::from_slice(alloc, &[5])?;
+    let pairs = pairs(alloc, from)?;
+    MemKeeper::new(alloc, &pairs, fails)
+}
+
+// Whether the keeper has this value for a key.
+fn keeps(alloc: Global, keeper: &mut MemKeeper, key: &str, want: Option<&str>) -> bool {
+    match (keeper.load(alloc, key), want) {
+        (Ok(Some(value)), Some(want)) => value.as_slice() == want.as_bytes(),
+        (Ok(None), None) => true,
+        _ => false,
+    }
+}
+
+// What the keeper answers to storing these pairs.
+fn stored(
+    alloc: Global,
+    keeper: &mut MemKeeper,
+    more: &[(&str, &str)],
+) -> Result<Result<(), PortFail>, AllocError> {
+    let more = pairs(alloc, more)?;
+    Ok(keeper.store(&more))
 }
 
 #[test]
@@ -154,78 +206,59 @@ fn the_keeper_begins_with_the_first_pair_of_a_key_and_stores_the_last(
     rt: HostRuntime,
 ) -> Result<(), Fail> {
     let alloc = rt.alloc();
-    let mut keeper = MemKeeper::new(
-        alloc,
-        &pairs(alloc, &[("a", "1"), ("a", "2"), ("b", "3")])?,
-        numbers(alloc, &[5])?,
-    )?;
-    let more = pairs(alloc, &[("a", "4"), ("c", "5"), ("a", "6")])?;
-    // the key, and its values before and after the fourth call
-    for (key, old) in [("a", Some("1")), ("b", Some("3")), ("c", None)] {
-        let value = keeper.load(alloc, key)?;
-        assert_eq!(rt;
-            value.as_ref().map(|v| v.as_slice()),
-            old.map(|v| v.as_bytes()),
-            "at {key}"
-        );
-    }
-    assert_eq!(rt; keeper.store(&more), Ok(()));
-    assert_eq!(rt;
-        keeper.store(&pairs(alloc, &[("b", "7")])?),
-        Err(PortFail::Failed)
-    );
-    for (key, new) in [("a", Some("6")), ("b", Some("3")), ("c", Some("5"))] {
-        let value = keeper.load(alloc, key)?;
-        assert_eq!(rt;
-            value.as_ref().map(|v| v.as_slice()),
-            new.map(|v| v.as_bytes()),
-            "at {key}"
-        );
-    }
+    let mut keeper = keeper(alloc, &[("a", "1"), ("a", "2"), ("b", "3")])?;
+    assert!(rt; keeps(alloc, &mut keeper, "a", Some("1")));
+    assert!(rt; keeps(alloc, &mut keeper, "b", Some("3")));
+    assert!(rt; keeps(alloc, &mut keeper, "c", None));
+    let more = [("a", "4"), ("c", "5"), ("a", "6")];
+    assert_eq!(rt; stored(alloc, &mut keeper, &more)?, Ok(()));
+    let late = stored(alloc, &mut keeper, &[("b", "7")])?;
+    assert_eq!(rt; late, Err(PortFail::Failed), "the fifth call");
+    assert!(rt; keeps(alloc, &mut keeper, "a", Some("6")));
+    assert!(rt; keeps(alloc, &mut keeper, "b", Some("3")));
+    assert!(rt; keeps(alloc, &mut keeper, "c", Some("5")));
     Ok(())
+}
+
+// Files, the second read of which fails.
+fn room(alloc: Global, files: &[(&str, &str)]) -> Result<MemRoom, AllocError> {
+    let fails = Numbers::from_slice(alloc, &[2])?;
+    let files = pairs(alloc, files)?;
+    MemRoom::new(alloc, &files, fails)
+}
+
+// Whether the file at a path holds this.
+fn holds(alloc: Global, room: &mut MemRoom, path: &str, want: &str) -> bool {
+    match room.read(alloc, path) {
+        Ok(Some(bytes)) => bytes.as_slice() == want.as_bytes(),
+        _ => false,
+    }
 }
 
 #[test]
 fn files_are_read_by_the_first_pair_of_a_path(rt: HostRuntime) -> Result<(), Fail> {
     let alloc = rt.alloc();
-    let mut room = MemRoom::new(
-        alloc,
-        &pairs(alloc, &[("/a", "1"), ("/a", "2")])?,
-        numbers(alloc, &[2])?,
-    )?;
-    // the path, and what the first, the second and the third call give
-    for (path, want) in [
-        ("/a", Ok(Some("1"))),
-        ("/a", Err(PortFail::Failed)),
-        ("/b", Ok(None)),
-    ] {
-        let bytes = room.read(alloc, path);
-        assert_eq!(rt;
-            bytes
-                .as_ref()
-                .map(|b| b.as_ref().map(|b| b.as_slice()))
-                .map_err(|e| *e),
-            want.map(|w| w.map(|w| w.as_bytes())),
-            "at {path}"
-        );
-    }
+    let mut room = room(alloc, &[("/a", "1"), ("/a", "2")])?;
+    assert!(rt; holds(alloc, &mut room, "/a", "1"));
+    assert!(rt; matches!(room.read(alloc, "/a"), Err(PortFail::Failed)));
+    assert!(rt; matches!(room.read(alloc, "/b"), Ok(None)));
     Ok(())
+}
+
+// Whether putting bytes is answered so, and this was taken by then.
+fn puts(sink: &mut MemSink, bytes: &str, want: Result<(), Failed>, taken: &str) -> bool {
+    sink.put(bytes.as_bytes()) == want && sink.taken() == taken.as_bytes()
 }
 
 #[test]
 fn a_sink_takes_what_fits_and_nothing_of_the_rest(rt: HostRuntime) -> Result<(), Fail> {
-    let mut sink = MemSink::new(rt.alloc(), 5, numbers(rt.alloc(), &[3])?)?;
-    // the bytes, the answer, and what was taken by then
-    for (bytes, want, taken) in [
-        ("abc", Ok(()), "abc"),
-        ("def", Err(Failed), "abc"),
-        ("d", Err(Failed), "abc"),
-        ("de", Ok(()), "abcde"),
-        ("", Ok(()), "abcde"),
-        ("f", Err(Failed), "abcde"),
-    ] {
-        assert_eq!(rt; sink.put(bytes.as_bytes()), want, "at {bytes:?}");
-        assert_eq!(rt; sink.taken(), taken.as_bytes(), "after {bytes:?}");
-    }
+    let fails = Numbers::from_slice(rt.alloc(), &[3])?;
+    let mut sink = MemSink::new(rt.alloc(), 5, fails)?;
+    assert!(rt; puts(&mut sink, "abc", Ok(()), "abc"));
+    assert!(rt; puts(&mut sink, "def", Err(Failed), "abc"));
+    assert!(rt; puts(&mut sink, "d", Err(Failed), "abc"));
+    assert!(rt; puts(&mut sink, "de", Ok(()), "abcde"));
+    assert!(rt; puts(&mut sink, "", Ok(()), "abcde"));
+    assert!(rt; puts(&mut sink, "f", Err(Failed), "abcde"));
     Ok(())
 }

@@ -2,7 +2,7 @@
 use crate::{FileBad, KeyFail, Keyring, KeyringFail, read_keyring};
 use child_ports::{Bytes, GitRow, GitRows, MemGit, Names, Numbers, Text, is_name, rows_fit};
 use object_frames::{FrameFail, Id, Kind, id_of};
-use std::alloc::Global;
+use std::alloc::{AllocError, Global};
 use std::process::Abort;
 use std::test::Fail;
 use tree_entries::TreeFail;
@@ -15,30 +15,47 @@ const KEYS_AB: &[u8] = b"\x98\x07\x04\0\0\0\0\x01a\x98\x07\x04\0\0\0\0\x01b";
 
 const KEYS_BA: &[u8] = b"\x98\x07\x04\0\0\0\0\x01b\x98\x07\x04\0\0\0\0\x01a";
 
-fn put_row(alloc: Global, rows: &mut GitRows, name: &[u8], answer: Bytes) -> Result<(), Fail> {
+// The bytes of some parts.
+fn joined(alloc: Global, parts: &[&[u8]]) -> Result<Bytes, AllocError> {
+    let mut bytes = Bytes::new(alloc);
+    for part in parts {
+        bytes.extend(part)?;
+    }
+    Ok(bytes)
+}
+
+fn put_row(
+    alloc: Global,
+    rows: &mut GitRows,
+    name: &[u8],
+    answer: Bytes,
+) -> Result<(), AllocError> {
+    let name = Bytes::from_slice(alloc, name)?;
     rows.push(GitRow {
         dir: Text::new(alloc),
-        name: Bytes::from_slice(alloc, name)?,
+        name,
         answer,
-    })?;
-    Ok(())
+    })
 }
 
 // The answer of git with an object.
-fn frame(alloc: Global, kind: Kind, content: &[u8]) -> Result<Bytes, Fail> {
+fn frame(alloc: Global, kind: Kind, content: &[u8]) -> Result<Bytes, AllocError> {
     let mut digits = [0u8; 40];
     id_of(kind, content).write_hex(&mut digits);
-    let mut answer = Bytes::from_slice(alloc, &digits)?;
-    answer.extend(b" ")?;
-    answer.extend(kind.word())?;
-    answer.extend(format!(in alloc; " {}\n", content.len())?.as_bytes())?;
+    let size = format!(in alloc; " {}\n", content.len())?;
+    let mut answer = joined(alloc, &[&digits, b" ", kind.word(), size.as_bytes()])?;
     answer.extend(content)?;
     answer.extend(b"\n")?;
     Ok(answer)
 }
 
 // Has git answer to an object's id.
-fn put_object(alloc: Global, rows: &mut GitRows, kind: Kind, content: &[u8]) -> Result<Id, Fail> {
+fn put_object(
+    alloc: Global,
+    rows: &mut GitRows,
+    kind: Kind,
+    content: &[u8],
+) -> Result<Id, AllocError> {
     let id = id_of(kind, content);
     let mut digits = [0u8; 40];
     id.write_hex(&mut digits);
@@ -46,81 +63,111 @@ fn put_object(alloc: Global, rows: &mut GitRows, kind: Kind, content: &[u8]) -> 
     Ok(id)
 }
 
-// Has git answer to `keyring` with a tree of files.
-fn put_branch(alloc: Global, rows: &mut GitRows, files: &[(&str, Id)]) -> Result<(), Fail> {
+// A tree of files.
+fn tree_of(alloc: Global, files: &[(&str, Id)]) -> Result<Bytes, AllocError> {
     let mut tree = Bytes::new(alloc);
     for (name, id) in files {
-        tree.extend(b"100644 ")?;
-        tree.extend(name.as_bytes())?;
-        tree.extend(b"\0")?;
-        tree.extend(&id.bytes())?;
+        let id = id.bytes();
+        let entry = joined(alloc, &[b"100644 ", name.as_bytes(), b"\0", id.as_slice()])?;
+        tree.extend(entry.as_slice())?;
     }
+    Ok(tree)
+}
+
+// Has git answer to `keyring` with a tree of files.
+fn put_branch(alloc: Global, rows: &mut GitRows, files: &[(&str, Id)]) -> Result<(), AllocError> {
+    let tree = tree_of(alloc, files)?;
     let answer = frame(alloc, Kind::Tree, tree.as_slice())?;
     put_row(alloc, rows, b"keyring", answer)
 }
 
-// The keyring of two names, where the calls of these numbers fail.
+// Git with these rows, where the calls of these numbers fail.
+fn git(rt: &impl Abort, alloc: Global, rows: GitRows, fails: &[u64]) -> Result<MemGit, AllocError> {
+    assert!(rt; rows_fit(&rows), "the rows fit");
+    let fails = Numbers::from_slice(alloc, fails)?;
+    MemGit::new(alloc, rows, fails, Numbers::new(alloc))
+}
+
+// The keyring of two names.
 fn read(
     rt: &impl Abort,
     alloc: Global,
-    rows: GitRows,
-    fails: &[u64],
+    git: &mut MemGit,
     [first, second]: [&str; 2],
-) -> Result<Result<Keyring, KeyringFail>, Fail> {
-    assert!(rt; rows_fit(&rows), "the rows fit");
-    let fails = Numbers::from_slice(alloc, fails)?;
-    let mut git = MemGit::new(alloc, rows, fails, Numbers::new(alloc))?;
+) -> Result<Keyring, KeyringFail> {
     assert!(rt; is_name(first.as_bytes()) && is_name(second.as_bytes()));
     let mut names = Names::new(alloc);
     names.push(Bytes::from_slice(alloc, first.as_bytes())?)?;
     names.push(Bytes::from_slice(alloc, second.as_bytes())?)?;
-    Ok(read_keyring(alloc, &mut git, "", &names))
+    read_keyring(alloc, git, "", &names)
+}
+
+// Git with a keyring of these two files, and a file that is no key file between them.
+fn two_files<'x>(
+    rt: &impl Abort,
+    alloc: Global,
+    (first, key): (&'x str, &'x [u8]),
+    (second, other): (&'x str, &'x [u8]),
+) -> Result<MemGit, AllocError> {
+    let mut rows = GitRows::new(alloc);
+    let key = put_object(alloc, &mut rows, Kind::Blob, key)?;
+    let other = put_object(alloc, &mut rows, Kind::Blob, other)?;
+    let none = id_of(Kind::Blob, b"no key file");
+    let files = [(first, key), ("key", none), (second, other)];
+    put_branch(alloc, &mut rows, &files)?;
+    git(rt, alloc, rows, &[])
+}
+
+// Whether the keyring has these bytes, and so many keys.
+fn holds(read: &Result<Keyring, KeyringFail>, bytes: &[u8], count: usize) -> bool {
+    match read {
+        Ok(keyring) => keyring.bytes.as_slice() == bytes && keyring.keys.len() == count,
+        Err(_) => false,
+    }
 }
 
 #[test]
 fn key_files_are_joined_in_the_trees_order(rt: HostRuntime) -> Result<(), Fail> {
     let alloc = rt.alloc();
     // two files, what they hold together, and how many keys
-    for ((first, key), (second, other), want, count) in [
+    for (first, second, want, count) in [
         (("a.key", KEY_A), ("b.key", KEY_B), KEYS_AB, 2),
         (("b.key", KEY_B), ("a.key", KEY_A), KEYS_BA, 2),
         (("a.key", KEY_A), ("a.KEY", KEY_B), KEY_A, 1),
     ] {
-        let mut rows = GitRows::new(alloc);
-        let key_id = put_object(alloc, &mut rows, Kind::Blob, key)?;
-        let other_id = put_object(alloc, &mut rows, Kind::Blob, other)?;
-        let none = id_of(Kind::Blob, b"no key file");
-        let files = [(first, key_id), ("key", none), (second, other_id)];
-        put_branch(alloc, &mut rows, &files)?;
-        let keyring = read(&rt, alloc, rows, &[], ["keyring", "other"])??;
-        assert_eq!(rt; keyring.bytes.as_slice(), want);
-        assert_eq!(rt; keyring.keys.len(), count);
+        let mut git = two_files(&rt, alloc, first, second)?;
+        let keyring = read(&rt, alloc, &mut git, ["keyring", "other"]);
+        assert!(rt; holds(&keyring, want, count), "at {want:?}");
     }
     Ok(())
+}
+
+// Git with a keyring of no file.
+fn no_files(rt: &impl Abort, alloc: Global) -> Result<MemGit, AllocError> {
+    let mut rows = GitRows::new(alloc);
+    put_branch(alloc, &mut rows, &[])?;
+    git(rt, alloc, rows, &[])
+}
+
+// Whether the keyring is that of the empty tree.
+fn is_empty(read: &Result<Keyring, KeyringFail>) -> bool {
+    let tree = Id::of_hex(b"4b825dc642cb6eb9a060e54bf8d69288fbee4904");
+    holds(read, b"", 0) && matches!(read, Ok(keyring) if Some(keyring.tree) == tree)
 }
 
 #[test]
 fn the_first_name_that_is_not_missing_counts(rt: HostRuntime) -> Result<(), Fail> {
     let alloc = rt.alloc();
-    let tree = Id::of_hex(b"4b825dc642cb6eb9a060e54bf8d69288fbee4904");
-    for (names, want) in [
-        (["keyring", "other"], tree),
-        (["missing", "keyring"], tree),
-        (["missing", "other"], None),
-    ] {
-        let mut rows = GitRows::new(alloc);
-        put_branch(alloc, &mut rows, &[])?;
-        match read(&rt, alloc, rows, &[], names)? {
-            Ok(keyring) => {
-                assert_eq!(rt; Some(keyring.tree), want, "at {names:?}");
-                assert_eq!(rt; (keyring.bytes.len(), keyring.keys.len()), (0, 0));
-            }
-            Err(fail) => {
-                assert!(rt; matches!(fail, KeyringFail::NoBranch), "at {names:?}");
-                assert_eq!(rt; want, None);
-            }
-        }
+    for names in [["keyring", "other"], ["missing", "keyring"]] {
+        let mut git = no_files(&rt, alloc)?;
+        assert!(rt;
+            is_empty(&read(&rt, alloc, &mut git, names)),
+            "at {names:?}"
+        );
     }
+    let mut git = no_files(&rt, alloc)?;
+    let keyring = read(&rt, alloc, &mut git, ["missing", "other"]);
+    assert!(rt; matches!(keyring, Err(KeyringFail::NoBranch)));
     Ok(())
 }
 
@@ -134,23 +181,24 @@ fn refusal(read: &Result<Keyring, KeyringFail>) -> &'static str {
     }
 }
 
+// The refusal of a root tree that git answers so.
+fn refused(rt: &impl Abort, alloc: Global, answer: Bytes) -> Result<&'static str, AllocError> {
+    let mut rows = GitRows::new(alloc);
+    put_row(alloc, &mut rows, b"keyring", answer)?;
+    put_branch(alloc, &mut rows, &[])?;
+    let mut git = git(rt, alloc, rows, &[])?;
+    Ok(refusal(&read(rt, alloc, &mut git, ["keyring", "other"])))
+}
+
 #[test]
 fn a_branch_that_is_no_tree_is_told(rt: HostRuntime) -> Result<(), Fail> {
     let alloc = rt.alloc();
     let blob = frame(alloc, Kind::Blob, b"")?;
+    assert_eq!(rt; refused(&rt, alloc, blob)?, "a blob");
     let cut = frame(alloc, Kind::Tree, b"100644 a.key")?;
+    assert_eq!(rt; refused(&rt, alloc, cut)?, "its first entry is cut");
     let none = Bytes::from_slice(alloc, b"?")?;
-    for (answer, want) in [
-        (blob, "a blob"),
-        (cut, "its first entry is cut"),
-        (none, "no header"),
-    ] {
-        let mut rows = GitRows::new(alloc);
-        put_row(alloc, &mut rows, b"keyring", answer)?;
-        put_branch(alloc, &mut rows, &[])?;
-        let read = read(&rt, alloc, rows, &[], ["keyring", "other"])?;
-        assert_eq!(rt; refusal(&read), want);
-    }
+    assert_eq!(rt; refused(&rt, alloc, none)?, "no header");
     Ok(())
 }
 
@@ -171,6 +219,26 @@ fn file_fault(read: &Result<Keyring, KeyringFail>) -> &'static str {
     }
 }
 
+// Git with a good key file, this object as another, which may not be there, and a third that is none.
+fn three_files(
+    rt: &impl Abort,
+    alloc: Global,
+    kind: Kind,
+    content: &[u8],
+    there: bool,
+) -> Result<MemGit, AllocError> {
+    let mut rows = GitRows::new(alloc);
+    let good = put_object(alloc, &mut rows, Kind::Blob, KEY_A)?;
+    if there {
+        put_object(alloc, &mut rows, kind, content)?;
+    }
+    let bad = id_of(kind, content);
+    let none = id_of(Kind::Blob, b"");
+    let files = [("a.key", good), ("b.key", bad), ("c.key", none)];
+    put_branch(alloc, &mut rows, &files)?;
+    git(rt, alloc, rows, &[])
+}
+
 #[test]
 fn the_first_key_file_at_fault_is_told(rt: HostRuntime) -> Result<(), Fail> {
     let alloc = rt.alloc();
@@ -181,33 +249,28 @@ fn the_first_key_file_at_fault_is_told(rt: HostRuntime) -> Result<(), Fail> {
         (Kind::Commit, KEY_B, true, "a commit"),
         (Kind::Blob, KEY_B, false, "missing"),
     ] {
-        let mut rows = GitRows::new(alloc);
-        let good = put_object(alloc, &mut rows, Kind::Blob, KEY_A)?;
-        if there {
-            put_object(alloc, &mut rows, kind, content)?;
-        }
-        let none = id_of(Kind::Blob, b"");
-        let files = [
-            ("a.key", good),
-            ("b.key", id_of(kind, content)),
-            ("c.key", none),
-        ];
-        put_branch(alloc, &mut rows, &files)?;
-        let read = read(&rt, alloc, rows, &[], ["keyring", "other"])?;
-        assert_eq!(rt; file_fault(&read), want);
+        let mut git = three_files(&rt, alloc, kind, content, there)?;
+        let keyring = read(&rt, alloc, &mut git, ["keyring", "other"]);
+        assert_eq!(rt; file_fault(&keyring), want);
     }
     Ok(())
+}
+
+// Git with a keyring of one file, which fails at this call.
+fn one_file(rt: &impl Abort, alloc: Global, call: u64) -> Result<MemGit, AllocError> {
+    let mut rows = GitRows::new(alloc);
+    let id = put_object(alloc, &mut rows, Kind::Blob, KEY_A)?;
+    put_branch(alloc, &mut rows, &[("a.key", id)])?;
+    git(rt, alloc, rows, &[call])
 }
 
 #[test]
 fn a_failed_call_is_told(rt: HostRuntime) -> Result<(), Fail> {
     let alloc = rt.alloc();
     for call in [1, 2, 20] {
-        let mut rows = GitRows::new(alloc);
-        let id = put_object(alloc, &mut rows, Kind::Blob, KEY_A)?;
-        put_branch(alloc, &mut rows, &[("a.key", id)])?;
-        let read = read(&rt, alloc, rows, &[call], ["missing", "keyring"])?;
-        assert!(rt; matches!(read, Err(KeyringFail::GitFault)), "at {call}");
+        let mut git = one_file(&rt, alloc, call)?;
+        let keyring = read(&rt, alloc, &mut git, ["missing", "keyring"]);
+        assert!(rt; matches!(keyring, Err(KeyringFail::GitFault)), "at {call}");
     }
     Ok(())
 }
