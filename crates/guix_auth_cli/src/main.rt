@@ -16,6 +16,7 @@ use crate::starting::{exit_code, words_given};
 use child_ports::Sink;
 use real_ports::{ChildGit, ChildSig, RealRoom, StdSink, program_named, store_root};
 use state_store::SqlKeeper;
+use std::io::writer;
 use std::process::ExitCode;
 use std::{env, io};
 
@@ -29,6 +30,7 @@ fn run_program<E: Sink>(rt: HostRuntime, err: &mut E) -> io::Result<u8> {
     let gpgv = program_named(&rt, "GUIX_AUTH_GPGV", "gpgv")?;
     let root = store_root(&rt)?;
     let records = format!(in alloc; "{root}/kept.sqlite")?;
+    let out = rt.stdout();
     Ok(run(
         alloc,
         &words,
@@ -36,14 +38,15 @@ fn run_program<E: Sink>(rt: HostRuntime, err: &mut E) -> io::Result<u8> {
         &mut ChildSig::new(rt, gpgv.as_str(), root.as_str())?,
         &mut SqlKeeper::at(rt, alloc, records.as_str())?,
         &mut RealRoom::new(rt),
-        &mut StdSink::new(rt.stdout()),
+        &mut StdSink::new(writer(&out)),
         err,
     ))
 }
 
 // What is left to believe here: the program ends with the code of its run.
 fn main(rt: HostRuntime) -> ExitCode {
-    let mut err = StdSink::new(rt.stderr());
+    let to_err = rt.stderr();
+    let mut err = StdSink::new(writer(&to_err));
     let ran = run_program(rt, &mut err);
     exit_code(&mut err, ran)
 }

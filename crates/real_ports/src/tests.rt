@@ -2,7 +2,7 @@
 use crate::{ChildGit, ChildSig, RealRoom, StdSink};
 use child_ports::{Failed, FileRoom, GitPort, PortFail, SigPort, Sink};
 use std::alloc::Global;
-use std::io::Write;
+use std::io::{Write, writer};
 use std::rt::Files;
 use std::test::Fail;
 use std::{fs, io};
@@ -81,5 +81,6 @@ fn before_a_keyring_is_loaded_a_question_fails(rt: HostRuntime) -> Result<(), Fa
 
 #[test]
 fn a_sink_puts_into_its_stream(rt: HostRuntime) {
-    assert!(rt; StdSink::new(rt.stdout()).put(b"") == Ok(()));
+    let out = rt.stdout();
+    assert!(rt; StdSink::new(writer(&out)).put(b"") == Ok(()));
 }
