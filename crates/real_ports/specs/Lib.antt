@@ -2,6 +2,7 @@ pub mod Calls
 pub mod ChildGit
 pub mod ChildSig
 pub mod Goes
+pub mod Heard
 pub mod Place
 pub mod Put
 pub mod Rest

@@ -1,8 +1,9 @@
 //! A child `gpgv`, started for each question.
-ghost use Rattle.std.specs.Prelude.{◌≡◌, [], true, false, codes, Err, IfOk, OnOk, OnErr, IsSomeAnd, string_bytes};
+ghost use Rattle.std.specs.Prelude.{◌≡◌, [], true, false, codes, Err, IfOk, OnOk, OnErr, IsSome, IsSomeAnd, string_bytes};
 ghost use Rattle.std.specs.Path.{IsAbsoluteOf, path_buf_bytes};
 ghost use Rattle.child_ports.specs.Causes.{PortFailsByCount, one_more};
 ghost use Rattle.real_ports.specs.ChildSig.{bytes_of};
+ghost use Rattle.real_ports.specs.Heard.{IsOutput};
 ghost use Rattle.real_ports.specs.Put.{file_in};
 
 use crate::counting::counted;
@@ -72,6 +73,7 @@ impl<R: Processes + Files<File = File> + Env + AllocGlobal + Drop> SigPort for C
         ensures asked { self.new.asked ≡ self.old.asked }
         ensures cause { PortFailsByCount self.old.faults self.new.faults result }
         ensures path { OnOk result (IsSomeAnd self.new.keyring (λ file. IsAbsoluteOf (file_in (string_bytes self.old.work) (codes "keyring")) (path_buf_bytes file.put.path))) }
+        ensures locked { OnOk result (IsSome self.new.lock) }
         ensures stands { OnOk result (self.new.stands ≡ true) }
         ensures falls { OnErr result (self.new.stands ≡ false) }
     {
@@ -101,6 +103,7 @@ impl<R: Processes + Files<File = File> + Env + AllocGlobal + Drop> SigPort for C
         ensures stands { self.new.stands ≡ self.old.stands }
         ensures asked { self.new.asked ≡ one_more self.old.asked }
         ensures cause { PortFailsByCount self.old.faults self.new.faults result }
+        ensures heard { IfOk result (λ answer. IsOutput R.Started.Stdout.remaining answer) }
         ensures unloaded { self.old.stands ≡ false → result ≡ Err PortFail.Failed }
     {
         self.asked = self.asked.saturating_add(1);

@@ -1,6 +1,7 @@
 //! The front of a file.
 ghost use Rattle.std.specs.Prelude.{◌≡◌, ◌≢◌, None, Some, Ok, Err, take, IfOk, IfErr, IfSome};
 ghost use Rattle.std.specs.IoError.{error_kind};
+ghost use Rattle.real_ports.specs.Heard.{IsFront};
 
 use child_ports::Bytes;
 use std::alloc::Global;
@@ -34,7 +35,9 @@ fn front_of<F: Read + Drop>(alloc: Global, file: F) -> io::Result<Bytes>
 }
 
 /// The bytes of a file, of a longer one the first 67,108,865, or None where nothing is there.
-pub fn read_front<R: Files>(rt: &R, alloc: Global, path: &str) -> io::Result<Option<Bytes>> {
+pub fn read_front<R: Files>(rt: &R, alloc: Global, path: &str) -> io::Result<Option<Bytes>>
+    ensures front { IfOk result (λ found. IfSome found (λ bytes. IsFront R.File.remaining bytes)) }
+{
     match found(fs::open(rt, path))? {
         Some(file) => Ok(Some(front_of(alloc, file)?)),
         None => Ok(None),

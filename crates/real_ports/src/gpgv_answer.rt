@@ -4,6 +4,7 @@ ghost use Rattle.std.specs.IoError.{error_kind};
 ghost use Rattle.std.specs.Path.{path_buf_bytes};
 ghost use Rattle.std.specs.Process.{command_program, command_args};
 ghost use Rattle.real_ports.specs.Calls.{gpgv_words, SetsGpgvVars};
+ghost use Rattle.real_ports.specs.Heard.{IsOutput};
 
 use crate::calls::gpgv_call;
 use crate::gpgv_files::{Question, put_question};
@@ -69,7 +70,8 @@ pub fn ask_gpgv<R: Processes + Files + Env + AllocGlobal>(
     signature: &[u8],
     payload: &[u8],
 ) -> io::Result<Vec<u8>>
-    ensures { IfOk result (λ answer. length answer.items ≤ 65536) }
+    ensures heard { IfOk result (λ answer. IsOutput R.Started.Stdout.remaining answer.items) }
+    ensures limit { IfOk result (λ answer. length answer.items ≤ 65536) }
 {
     let asked = put_question(rt, work, signature, payload)?;
     let child = call_of(rt.alloc(), program, &asked)?

@@ -1,6 +1,8 @@
 //! The files of the system as a room.
-ghost use Rattle.std.specs.Prelude.{false};
+ghost use Rattle.std.specs.Prelude.{false, IfOk, IfSome};
 ghost use Rattle.std.specs.FinMap as fin;
+ghost use Rattle.child_ports.specs.Causes.{PortFailsByCount};
+ghost use Rattle.real_ports.specs.Heard.{IsFront};
 
 use crate::counting::counted;
 use crate::file_front::read_front;
@@ -29,7 +31,10 @@ impl<R: Files + AllocGlobal + Drop> FileRoom for RealRoom<R> {
 
     ghost files = { λ _. fin.empty };
 
-    fn read(&mut self, alloc: Global, path: &str) -> Result<Option<Bytes>, PortFail> {
+    fn read(&mut self, alloc: Global, path: &str) -> Result<Option<Bytes>, PortFail>
+        ensures front { IfOk result (λ found. IfSome found (λ bytes. IsFront R.File.remaining bytes)) }
+        ensures cause { PortFailsByCount self.old.faults self.new.faults result }
+    {
         counted(read_front(&self.rt, alloc, path), &mut self.faults)
     }
 }

@@ -2,6 +2,7 @@
 #![tactic(auto)]
 
 mod memory_table;
+mod opening;
 mod place;
 mod refusing;
 mod sql_keeper;

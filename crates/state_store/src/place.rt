@@ -6,18 +6,12 @@ ghost use Rattle.state_store.specs.Statements.{IsIntact, Rests, IsSame, StoresAl
 ghost use Rattle.state_store.specs.Place.{is_told, kept_at, IsOpen, InFile};
 
 use crate::memory_table::MemoryTable;
-use crate::statements::{make_table, put_all, select};
+use crate::opening::{FileTable, NOT_OPEN, open_file};
+use crate::statements::{put_all, select};
 use child_ports::{Bytes, Pair};
-use sqlite::{Connection, Error, ErrorCode, File, FileStore};
+use sqlite::Error;
 use std::alloc::Global;
-use std::fs;
-use std::io::ErrorKind;
 use std::rt::HostRuntime;
-
-// The answer of a table that isn't open. It is never that a key has no value.
-const NOT_OPEN: Error = Error::SqliteFailure(ErrorCode::CannotOpen);
-
-type FileTable = Connection<FileStore<File>>;
 
 /// Where the table is, and the table once it is open.
 #[derive(Drop)]
@@ -42,27 +36,6 @@ fn open_in_memory(alloc: Global, table: &mut Option<MemoryTable>) -> Result<(), 
         *table = Some(MemoryTable::new(alloc)?);
     }
     Ok(())
-}
-
-// Makes the folder of a path, where it isn't there.
-fn make_folder(rt: &HostRuntime, path: &str) -> Result<(), Error> {
-    let Some((folder, _)) = path.rsplit_once('/') else {
-        return Ok(());
-    };
-    match fs::create_dir_all(rt, folder) {
-        Ok(()) => Ok(()),
-        Err(e) if e.kind() == ErrorKind::OutOfMemory => {
-            Err(Error::SqliteFailure(ErrorCode::OutOfMemory))
-        }
-        Err(_) => Err(Error::SqliteFailure(ErrorCode::CannotOpen)),
-    }
-}
-
-fn open_file(rt: &HostRuntime, path: &str) -> Result<FileTable, Error> {
-    make_folder(rt, path)?;
-    let mut conn = Connection::open(rt, path)?;
-    make_table(&mut conn)?;
-    Ok(conn)
 }
 
 // Opens the table in a file, where it isn't open yet.
